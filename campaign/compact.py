@@ -4,7 +4,7 @@ Each random query is created four times in one session: as it is, shared, compac
 is compared with the evaluator's. Then the answers to each row are compared among those of the four that
 were accepted. Where the whole form of a query fits, it has the same numbers and the same plan shared or not;
 else it has its split form, of which it is counted how many parts there are. What one of the forms alone accepts
-is counted.
+is counted. A share of the scripts is compared with the evaluator's output, too, with all integers moved to the ends of what may be written.
 """
 import re
 from collections import namedtuple
@@ -13,6 +13,7 @@ import crossed
 import evaluator
 import language
 import linked
+import outermost
 import whole
 from common import Part, fault_of, run as run_program, scaled
 from evaluator import session_text
@@ -20,6 +21,7 @@ from generator import Writer
 from language import COMPACT_SHARE, Refused
 
 SCRIPTS = 1500
+MOVED = 0.2
 ROWS = [10, 15, 25, 40]
 FORMS = {b"p": b"", b"s": b"SHARED ", b"c": b"COMPACT ", b"b": b"SHARED COMPACT "}
 NUMBERS = re.compile(rb"ok query \w+ parts (\d+) cells (\d+) answers (\d+) work (\d+)\Z")
@@ -150,6 +152,8 @@ def judge(part, writer, lines, number, text):
 def one_script(part, program):
     writer = Writer(part.random)
     texts = write(writer)
+    if writer.chance(MOVED):
+        moved_script(part, program, writer.text())
     ran = run_program(program, ["run"], writer.text())
     part.count("runs")
     fault = fault_of(ran, session_text(writer.text()))
@@ -164,6 +168,17 @@ def one_script(part, program):
         part.count("queries with a full pool", int(pool))
         if fault:
             part.differs(fault, writer.text())
+
+
+def moved_script(part, program, text):
+    """The same script with its integers at the ends of what may be written."""
+    text = outermost.moved(text, part.random)
+    part.count("moved to the last integers")
+    wanted = session_text(text)
+    part.count("of these with a query of several parts", int(any(it.startswith(b"ok query c") and b" parts 1 " not in it for it in wanted.split(b"\n"))))
+    fault = fault_of(run_program(program, ["run"], text), wanted)
+    if fault:
+        part.differs(fault, text)
 
 
 def run(program, seed, scale):

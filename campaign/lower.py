@@ -6,8 +6,10 @@ lower end of its domain or 0, and the family must tell its sets: whatever set of
 before, the rows that ask for a row show whether it is in the set, or for an inequality without
 DISTINCT the numbers of answers differ between any two sets. All sets are tried up to 2^6, 64 random
 ones above, and some families of 1,000 rows are tried at random places. Queries that have no family,
-and scripts that are refused, are tried too. `lower N` makes no family for a refusal by C3. Whether a
-compact query is refused is told by its split form; families are of the query without the word.
+and scripts that are refused, are tried too. `lower N` makes no family for a refusal by C3. A compact
+query is refused where its whole form does not fit and a part of its split form breaks a condition. It
+must have a family then, as long as each `<>` between its streams has a side with both ends in the
+text; its rows may be of another stream than the column at fault.
 """
 import re
 from collections import Counter, namedtuple
@@ -17,6 +19,7 @@ import analysis
 import checker
 import refused
 import splitform
+import whole
 from branching import goes_by_form
 from common import Part, compare, run as run_program, scaled
 from evaluator import LiveQuery
@@ -44,15 +47,18 @@ class Fault(Exception):
 
 # what must be written
 
-def is_met(query):
-    """Whether no part by which a query is judged breaks a condition; TooManyParts above a limit."""
-    if goes_by_form(query):
-        return not any(map(splitform.violation, splitform.parts_of(query)))
-    return first_failure(query) is None
+def failure_by_form(query):
+    """What the split form of a compact query breaks first, or None, also where its whole form fits; TooManyParts above a limit."""
+    if whole.fitting(query):
+        return None
+    found = enumerate(map(splitform.violation, splitform.parts_of(query)), 1)
+    return next(((number, *it) for number, it in found if it), None)
 
 
 def first_failure(query):
-    """The first failure of a query by its ordered parts, or None; TooManyParts above the limit, also for a filter."""
+    """The first failure of a query, by its split form or by its ordered parts, or None; TooManyParts above the limit, also for a filter."""
+    if goes_by_form(query):
+        return failure_by_form(query)
     vectors = analysis.walk_parts(query, analysis.MOST_PARTS)
     if query.places == 1 and not query.distinct:
         return None
@@ -61,6 +67,21 @@ def first_failure(query):
         if violation:
             return number, *violation
     return None
+
+
+def is_closed(query, column):
+    """Whether the text gives a column both ends."""
+    if any(it[0] == column for it in query.domains):
+        return True
+    ends = [op if left == column else analysis.TURNED[op] for left, op, right in query.atoms
+            if column in (left, right) and (analysis.is_constant(left) or analysis.is_constant(right))]
+    return "=" in ends or (any(it[0] == "<" and it != "<>" for it in ends) and any(it[0] == ">" for it in ends))
+
+
+def has_open_unlike(query):
+    """Whether a `<>` stands between columns of two streams of which neither has both ends in the text."""
+    return any(op == "<>" and not analysis.is_constant(left) and not analysis.is_constant(right) and left[0] != right[0]
+               and not (is_closed(query, left) or is_closed(query, right)) for left, op, right in query.atoms)
 
 
 def query_of(text):
@@ -79,16 +100,19 @@ def without_family(text, every):
     """
     query, line, refusal = query_of(text)
     try:
-        met = query is not None and is_met(query)
-        failure = None if query is None or met else first_failure(query)
+        failure = None if query is None else first_failure(query)
     except analysis.TooManyParts:
         return b"error %d Limit\n" % line, 1
     if refusal:
         return checker.refusal_line(refusal), 1
     if failure is None:
-        return b"no family bounded\n" if met else b"no family form\n", 0
+        return b"no family bounded\n", 0
+    if failure[1] == "C3" and not every:
+        return b"no family C3\n", 0
+    if goes_by_form(query):
+        return None
     across = any(not analysis.is_local(it, it[0][0]) for it in analysis.pairs_of(query))
-    if failure[1] == "C3" and (not every or across or query.domains or query.compact):
+    if failure[1] == "C3" and (across or query.domains):
         return b"no family C3\n", 0
     return (b"no family C2\n", 0) if failure[1] == "C2" and across else None
 
@@ -236,6 +260,18 @@ def try_family(part, script, failure, family):
             count_apart_at(part, script, own, family, place)
 
 
+def shown_failure(script, failure, head, size):
+    """The failure with the column that the first line of a family names; it names another stream's only by the split form, and none for C1."""
+    query, streams, found = script.query, script.statement.streams, HEAD.match(head)
+    name = script.session.column_name
+    wanted = b"family q part %d %s %s size %d" % (failure[0], failure[1].encode(), name(streams, failure[2]), size)
+    others = analysis.attributes_of(query) if goes_by_form(query) and failure[1] != "C1" else []
+    column = next((it for it in others if found and it[0] != failure[2][0] and found[4] + b"." + found[5] == name(streams, it)), failure[2])
+    if head.replace(name(streams, column), name(streams, failure[2])) != wanted:
+        raise Fault(f"got {head!r}, wanted {wanted!r}")
+    return *failure[:2], column
+
+
 def judge(part, program, text, size, every):
     """Compares what is written of a script with what must be, or judges the family."""
     words = ("lower", *([EVERY] if every else []), str(size))
@@ -250,24 +286,26 @@ def judge(part, program, text, size, every):
     failure = first_failure(script.query)
     part.count("runs")
     output, status, noise = run_program(program, list(words), text)
+    if output == b"no family form\n" and goes_by_form(script.query) and has_open_unlike(script.query):
+        part.count("no family form")
+        return
     part.count(f"families by {failure[1]}")
     part.count("families by C3 with DISTINCT", int(failure[1] == "C3" and script.query.distinct))
     part.count("with a domain", int(bool(script.query.domains)))
     part.count("compact", int(script.query.compact))
-    named = script.session.column_name(script.statement.streams, failure[2])
+    part.count("compact by " + failure[1], int(goes_by_form(script.query)))
     head, *lines = output.split(b"\n")
     try:
         if status or noise or not output.endswith(b"\n"):
             raise Fault(f"status {status}, {len(noise)} bytes of noise")
-        front = b"family q part %d %s %s size %d" % (failure[0], failure[1].encode(), named, size)
-        if head != front or not HEAD.match(head):
-            raise Fault(f"got {head!r}, wanted {front!r}")
-        own = script.statement.streams[failure[2][0]]
+        shown = shown_failure(script, failure, head, size)
+        part.count("of another stream", int(shown[2][0] != failure[2][0]))
+        own = script.statement.streams[shown[2][0]]
         family = read_family(lines[:-1], size, own, script)
-        column = failure[2][1]
-        if len({it[column] for it in family.rows}) < size:
+        column = shown[2][1]
+        if (shown[1] == "C1" or not goes_by_form(script.query)) and len({it[column] for it in family.rows}) < size:
             raise Fault("two rows have the same value in the named column")
-        try_family(part, script, failure, family)
+        try_family(part, script, shown, family)
     except (Fault, ValueError) as fault:
         part.differs(f"{' '.join(words)}: {fault}", text)
 

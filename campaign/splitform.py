@@ -37,10 +37,10 @@ def outer_of(left, sign, right):
 
 
 def outer_integers(query, group):
-    """The outer integers of a group of columns that may be written, ascending."""
+    """The outer integers of a group of columns, ascending; in place of one of more than 15 digits stands the nearest that may be written."""
     found = [it for it in (outer_of(*atom) for atom in query.atoms) if it]
     found += [(column, end) for column, low, high in query.domains for end in (low - 1, high + 1)]
-    return sorted({number for column, number in found if column in group and abs(number) <= LARGEST_INTEGER})
+    return sorted({max(-LARGEST_INTEGER, min(LARGEST_INTEGER, number)) for column, number in found if column in group})
 
 
 def ends_of(left, sign, right):

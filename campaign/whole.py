@@ -9,6 +9,8 @@ import operator
 import analysis
 from analysis import SOFT, TURNED, Bounds, is_constant
 
+# by how many parts at most rows may be cheaper than as one
+MOST_CHEAP_PARTS = 16
 MEANING = {"<": operator.lt, "=": operator.eq, ">": operator.gt, "<=": operator.le, ">=": operator.ge, "<>": operator.ne}
 ALL = None, None
 
@@ -244,17 +246,17 @@ def as_one(query):
     return part if analysis.of_parts(query, [part], False).verdict[0] == "ok" else None
 
 
-def has_less_work_by_parts(query, part):
-    """Whether streams are linked by `<>` in the whole form, and the parts of the split form, within all limits too, take less work."""
+def has_cheaper_parts(query, part):
+    """Whether streams are linked by `<>` in the whole form, and the parts of the split form, within all limits too, are few and take less work."""
     # read here, since the split form reads whole forms
     import splitform
     if not any(sign == "<>" for _, sign, _ in part.facts.links):
         return False
     verdict = splitform.analyse(query).verdict
-    return verdict[0] == "ok" and verdict[4] < analysis.work_of(query, part.facts, part.dims)
+    return verdict[0] == "ok" and verdict[1] <= MOST_CHEAP_PARTS and verdict[4] < analysis.work_of(query, part.facts, part.dims)
 
 
 def fitting(query):
-    """The one part of the whole form, or None where it does not fit: it is not within the limits, or the parts of the split form take less work."""
+    """The one part of the whole form, or None where it does not fit: it is not within the limits, or rows are cheaper by the parts of the split form."""
     part = as_one(query)
-    return part if part and not has_less_work_by_parts(query, part) else None
+    return part if part and not has_cheaper_parts(query, part) else None

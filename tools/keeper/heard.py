@@ -5,6 +5,7 @@ So a run that goes on from a checkpoint before it says it once more in the same 
 behind it.
 """
 import fcntl
+import itertools
 import os
 import re
 import select
@@ -12,7 +13,7 @@ from contextlib import suppress
 from pathlib import Path
 
 from keeper import Fault, log
-from keeper.source import PIECE, Lines
+from keeper.stream import PIECE, Lines
 
 STATEMENT = re.compile(rb"(?:CREATE|DROP)[ \t][^\n]{1,1000}\Z", re.IGNORECASE)
 LINE = re.compile(rb"^(\d+|=|!) ([^\n]*)\n", re.MULTILINE)
@@ -21,13 +22,13 @@ LOOKS = 250
 
 
 class Fifo(Lines):
-    """A named pipe that is held open, and gives the lines that were written to it."""
+    """A named pipe that is held open."""
 
     def __init__(self, path):
         super().__init__(os.open(path, os.O_RDWR | os.O_NONBLOCK))
 
-    def lines(self):
-        """Those that have come whole since they were asked for."""
+    def heard(self):
+        """The lines that have come whole since they were asked for."""
         with suppress(BlockingIOError):
             return [it.lstrip() for it in self.cut(os.read(self.fd, PIECE)).split(b"\n") if it.strip()]
         return []
@@ -37,17 +38,17 @@ class Acks:
     """How many bytes the consumer has made durable, None where it does not say: the last line of a file, or pipe."""
 
     def __init__(self, path):
-        self.path, self.number, self.pipe = path, None, Fifo(path) if path and Path(path).is_fifo() else None
+        self.path, self.pipe = path, Fifo(path) if path and Path(path).is_fifo() else None
+        self.number = None if self.pipe or not path else 0
         self.read()
         # over a named pipe the first one is waited for
         while self.pipe and self.number is None:
             select.select([self.pipe.fd], [], [])
             self.read()
-        self.number = self.number or (0 if path else None)
 
     def read(self):
         """Takes what was said meanwhile."""
-        lines = self.pipe.lines() if self.pipe else []
+        lines = self.pipe.heard() if self.pipe else []
         if self.path and not self.pipe:
             # of a file to which a line is added each time its end is enough
             with suppress(FileNotFoundError), open(self.path, "rb") as file:
@@ -70,13 +71,13 @@ class Changes:
         self.list.seek(0)
         # a session that begins anew has none, and what was being written when a run was killed was not sent
         text = b"" if is_anew else self.list.read()
-        text = text[:text.rfind(b"\n") + 1]
-        self.list.truncate(len(text))
-        if LINE.sub(b"", text):
+        self.list.truncate(text.rfind(b"\n") + 1)
+        if LINE.sub(b"", text[:text.rfind(b"\n") + 1]):
             raise Fault(f"{self.list.name} has a line that no keeper wrote")
         # statements, each with the number of lines before it; and how many of them have a reply
-        self.known = [(int(kind), said) for kind, said in LINE.findall(text) if kind.isdigit()]
-        self.replied = sum(kind == b"=" for kind, _ in LINE.findall(text))
+        lines = LINE.findall(text)
+        self.known = [(int(kind), said) for kind, said in lines if kind.isdigit()]
+        self.replied = sum(kind == b"=" for kind, _ in lines)
 
     def append(self, line):
         """Brings a line to the disk, whole or not at all; whether it stands there."""
@@ -93,7 +94,7 @@ class Changes:
 
     def hear(self, lines):
         """Takes statements, and what they ask for holds behind so many lines; who sent another line is told."""
-        for statement in self.pipe.lines():
+        for statement in self.pipe.heard():
             if not STATEMENT.match(statement):
                 self.append(b"! CREATE and DROP lines alone\n")
             elif self.append(b"%d %s\n" % (lines, statement)):
@@ -111,16 +112,18 @@ def send(folder, lines):
     gone.register(pipe, 0)
     with open(os.path.join(folder, "changes"), "rb") as changes:
         changes.seek(0, os.SEEK_END)
-        said = b""
-        for number, line in enumerate(lines):
+        said, replies = b"", []
+        for count, line in enumerate(lines, 1):
             os.write(pipe, line + b"\n")
-            is_last, looks = False, 0
-            while len(replies := [reply for kind, reply in LINE.findall(said) if not kind.isdigit()]) <= number:
+            for looks in itertools.count():
+                is_last = gone.poll(20)
+                said += changes.read()
+                replies = [reply for kind, reply in LINE.findall(said) if not kind.isdigit()]
+                if len(replies) == count:
+                    break
                 if is_last:
                     raise Fault(f"the run that has {folder} ended before it replied; {changes.name} has what it took")
-                is_last, looks = bool(gone.poll(20)), looks + 1
-                said += changes.read()
                 if looks == LOOKS:
                     log.warning("no reply yet: what the run says tells whether its disk is full, or rows are to come"
                                 " again first")
-            yield replies[number].decode()
+            yield replies[-1].decode()

@@ -20,17 +20,16 @@ from keeper.heard import Acks, Changes
 from keeper.session import Session
 from keeper.sink import ERROR, Sink
 from keeper.source import source_for
+from keeper.stream import Way, pass_on
 from keeper.watch import Watch
 
 # how many bytes of the input are kept for a bq that has to be begun again, and after how many a checkpoint is asked for
 KEPT, MUCH = 64 << 20, 16 << 20
 # seconds: the longest pause before bq is begun again, how long a good one lives, between two looks, and a file rests
 LONGEST_PAUSE, SOON, TICK, REST = 30, 60, 0.1, 0.02
-# how often it is looked for what comes next, for some 50 us; where that was in vain twice, behind how many waits again
-LOOKS, REFRAINS = 120 if len(os.sched_getaffinity(0)) > 1 else 0, 100
 # of how many checkpoints the replies may be unacknowledged
 NEWER = 30
-BLANK, TAKEN = ord(" "), re.compile(rb"^RESUME (\d+)$", re.MULTILINE)
+TAKEN = re.compile(rb"^RESUME (\d+)$", re.MULTILINE)
 # what each signal sets
 SIGNALS = {signal.SIGTERM: "is_told", signal.SIGINT: "is_told",
            signal.SIGHUP: "is_wanted", signal.SIGUSR1: "is_curious"}
@@ -58,23 +57,17 @@ class Run:
             if number > self.kept.number:
                 os.rename(path_of(folder, number), path_of(folder, number) + ".aside")
         self.standing = dict.fromkeys(reversed(numbers_in(folder)), self.kept.place.output)
-        # where a checkpoint was asked for last, and when; and one that is brought to the disk
-        self.asked, self.asked_at, self.keeping = self.kept.place, time.monotonic(), None
-        self.disk = ThreadPoolExecutor(1)
+        # where a checkpoint was asked for last, and when; one that is brought to the disk; and the bq that runs
+        self.asked, self.asked_at, self.keeping, self.session = self.kept.place, time.monotonic(), None, None
         self.is_asked = self.is_wanted = self.is_ending = self.is_told = self.is_curious = self.is_done = False
-        self.pause = self.begun_at = self.begin_at = self.next_tick = self.moved = self.stuck = self.vain = 0
-        # the bq that runs
-        self.session = None
-        self.watch = Watch(self, options)
+        self.pause = self.begun_at = self.begin_at = self.next_tick = self.moved = self.stuck = 0
+        self.disk, self.watch = ThreadPoolExecutor(1), Watch(self, options)
 
     def run(self):
-        """Runs to the end."""
-        told, wake = os.pipe()
-        os.set_blocking(wake, False)
-        signal.set_wakeup_fd(wake)
-        for one in SIGNALS:
-            signal.signal(one, lambda *_: None)
-        threading.Thread(target=self.mind_signals, args=(told,), daemon=True).start()
+        """Begins bq, and goes round until the run is done."""
+        # all that begins from here on, bq too, leaves them to the thread that minds them
+        signal.pthread_sigmask(signal.SIG_BLOCK, SIGNALS)
+        threading.Thread(target=self.mind_signals, daemon=True).start()
         # who reads this may send signals
         if self.kept.number:
             log.info("goes on behind %d rows, %d lines or %d bytes of the input, with %d bytes of replies",
@@ -93,10 +86,10 @@ class Run:
                 self.session.process.kill()
             self.watch.show(time.monotonic())
 
-    def mind_signals(self, told):
+    def mind_signals(self):
         """Notes what signals ask for, also while the loop waits for a disk; who ends the run gives it its grace."""
         while not self.is_told:
-            setattr(self, SIGNALS[os.read(told, 1)[0]], True)
+            setattr(self, SIGNALS[signal.sigwait(SIGNALS)], True)
         time.sleep(self.options.grace)
         if session := self.session:
             session.process.kill()
@@ -106,55 +99,26 @@ class Run:
                         b" %g s\n" % self.options.grace)
         os._exit(1)
 
-    def ways(self):
-        """By handle: whether what comes goes on as it came, else by what; from where, to where, and who counts it."""
-        session, sink, source, replies = self.session, self.sink, self.source, self.session.replies
-        # None where a handle takes more first: replies come only where they go on, a row only where bq takes it
-        is_plain = not (replies.rest or session.groups or sink.behind)
-        ways = {sink.fd: None} if sink.pending else {replies.fd: (is_plain, self.receive, replies, sink, sink.count)}
-        if session.pending:
-            ways[session.fd] = None
-        elif not (session.is_gone or self.is_ending or source.is_at_rest):
-            is_plain = not source.rest and self.applied == len(self.changes.known)
-            ways[source.fd] = is_plain, self.feed, source, session, source.count
-        return ways
-
     def turn(self):
-        """Passes on what comes first, as long as the same is waited for.
-
-        To be woken takes long, so what comes is looked for before the run sleeps, where that was not in vain of late.
-        Most pieces are whole lines, and most replies have no blank, as they are answers: these go on as they came, and
-        are counted behind the write, while whoever waits for them wakes. All else is cut, changed, or taken out first.
-        """
-        ways, poll, source, is_same = self.ways(), select.poll(), self.source, True
-        for fd, way in ways.items():
-            poll.register(fd, select.POLLIN if way else select.POLLOUT)
+        """Passes on what comes: replies where they go on, and rows where bq takes them; full outlets take more."""
+        session, sink, source, replies = self.session, self.sink, self.source, self.session.replies
+        full, ways, poll = [it for it in (sink, session) if it.pending], {}, select.poll()
+        if not sink.pending:
+            ways[replies.fd] = self.from_bq.begin(not (replies.rest or session.groups or sink.behind))
+        if not (session.pending or session.is_gone or self.is_ending or source.is_at_rest):
+            ways[source.fd] = self.to_bq.begin(not source.rest and self.applied == len(self.changes.known))
+        for fd in ways:
+            poll.register(fd, select.POLLIN)
+        for outlet in full:
+            poll.register(outlet.fd, select.POLLOUT)
         pause, source.is_at_rest = 1000 * (REST if source.is_at_rest else TICK), False
-        look, read, write = poll.poll, os.read, os.write
-        while is_same:
-            looks = LOOKS if self.vain % REFRAINS < 2 else 0
-            while not (ready := look(0 if looks else pause)) and looks:
-                looks -= 1
-            is_same = False
-            if ready and (way := ways[(fd := ready[0][0])]):
-                is_plain, change, lines, outlet, count = way
-                piece, taken = read(fd, lines.size), 0
-                if is_plain and piece[-1:] == b"\n" and len(piece) <= outlet.room and (
-                        lines is source or BLANK not in piece):
-                    # what fails is tried once more, where that is minded
-                    try:
-                        taken = write(outlet.fd, piece)
-                    except OSError:
-                        pass
-                if taken:
-                    outlet.took(piece, taken)
-                    count(lines.cut(piece))
-                    is_same = not outlet.pending and time.monotonic() < self.next_tick
-                else:
-                    change(piece)
-            elif ready:
-                (self.sink if fd == self.sink.fd else self.session).put()
-            self.vain = 0 if looks else self.vain + 1
+        way, piece = pass_on(ways, poll.poll, pause, self.next_tick)
+        for it in ways.values():
+            it.end()
+        for outlet in full:
+            outlet.put()
+        if way:
+            way.change(piece)
 
     def feed(self, piece):
         """Sends what came, and has the last checkpoint taken where it ends."""
@@ -197,6 +161,8 @@ class Run:
         words = [options.program, "run", *(["--rows", options.rows] if options.rows else [])]
         text = kept.body if kept.number else self.script
         self.session = Session(words, options.to, text, place.lines, self.sink.take)
+        self.to_bq = Way(self.source, self.session, self.feed, self.source.count, False)
+        self.from_bq = Way(self.session.replies, self.sink, self.receive, self.sink.count, True)
         self.begun_at, self.applied, self.asked, self.is_asked = time.monotonic(), place.changes, place, False
         if kept.number:
             self.sink.behind = self.sink.written - place.output

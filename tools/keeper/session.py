@@ -12,8 +12,8 @@ from collections import deque
 from contextlib import suppress
 
 from keeper import Fault
-from keeper.sink import AT_ONCE, ERROR, Outlet
-from keeper.source import Lines
+from keeper.sink import AT_ONCE, ERROR
+from keeper.stream import Lines, Outlet
 
 # F_SETPIPE_SZ of Linux, and the most that is allowed without more rights
 SET_SIZE, PIPE_SIZE = 1031, 1 << 20
@@ -25,9 +25,7 @@ class Session(Outlet):
     """bq, with the lines that were sent to it: first those that begin the session; `give` takes the replies to rows."""
 
     def __init__(self, words, streams, text, lines_before, give):
-        # a signal from the terminal is for the keeper alone
-        self.process = subprocess.Popen(words, stdin=subprocess.PIPE, stdout=subprocess.PIPE, bufsize=0,
-                                        start_new_session=True)
+        self.process = subprocess.Popen(words, stdin=subprocess.PIPE, stdout=subprocess.PIPE, bufsize=0)
         super().__init__(self.process.stdin.fileno(), "bq", AT_ONCE)
         # this end of the pipe is the keeper's alone
         os.set_blocking(self.fd, False)

@@ -1,4 +1,4 @@
-"""Where bytes go that nobody waits for, and replies among them: to the end of a file, or into a pipe.
+"""Where replies go: to the end of a file, or into a pipe.
 
 What a reader may have seen is never cut or written again. A session that goes on from a checkpoint gives replies that
 were given before; they are passed by, and in a file they are compared with what stands there.
@@ -10,44 +10,11 @@ from collections import Counter
 
 from keeper import Fault, log
 from keeper.checkpoint import locked, sum_at
+from keeper.stream import MANY, Outlet
 
 ERROR, ANSWER = re.compile(rb"^error (\d+) (\w+)$", re.MULTILINE), re.compile(rb"^(\w+),", re.MULTILINE)
-# how many bytes are counted at once, and how many a file or a pipe of its own is given at once
-FEW, AT_ONCE = 1 << 12, 1 << 20
-
-
-class Outlet:
-    """Bytes on their way to a file or into a pipe; of one that takes some without waiting so many are written at once.
-
-    A handle is left as it was, as others may share it. A pipe that has room takes PIPE_BUF bytes without waiting.
-    """
-
-    def __init__(self, fd, name, most=select.PIPE_BUF):
-        self.fd, self.name, self.most, self.pending, self.written, self.room = fd, name, most, b"", 0, 0
-
-    def put(self, text=b""):
-        """Takes bytes, and writes what is taken without waiting."""
-        if text:
-            self.pending = memoryview(bytes(self.pending) + text)
-        try:
-            while self.pending:
-                if len(self.pending) > self.room:
-                    self.room = self.most if select.select([], [self.fd], [], 0)[1] else 0
-                if not self.room:
-                    return
-                self.took(self.pending, os.write(self.fd, self.pending[:self.room]))
-        except BlockingIOError:
-            # it has less room, or others who share it took some
-            self.room = 0
-        except OSError as fault:
-            self.fail(fault)
-
-    def took(self, text, count):
-        """So many bytes of a text were written, the rest waits."""
-        self.pending, self.written, self.room = text[count:], self.written + count, self.room - count
-
-    def fail(self, fault):
-        raise OSError(fault.errno, fault.strerror, self.name) from None
+# how many bytes a file or a pipe of its own is given at once
+AT_ONCE = 1 << 20
 
 
 class Sink(Outlet):
@@ -78,14 +45,13 @@ class Sink(Outlet):
                         f" {before} bytes")
 
     def take(self, text):
-        """Takes replies."""
-        if self.behind:
-            text = self.pass_by(text)
+        """Takes replies, but for those that a reader may have seen."""
+        text = self.pass_by(text) if self.behind else text
         self.put(text)
         self.count(text)
 
     def pass_by(self, text):
-        """Leaves out what a reader may have seen. A file with other bytes, as behind a torn disk, is cut there."""
+        """Leaves out what stands there. A file with other bytes, as behind a torn disk, is cut there."""
         place, front = self.total, text[:self.behind]
         there = os.pread(self.fd, len(front), place) if self.path else front
         self.behind -= len(front)
@@ -101,7 +67,7 @@ class Sink(Outlet):
     def count(self, text=b""):
         """Counts what was taken: many lines at once, and all where no more is given."""
         self.uncounted += text
-        if text and len(self.uncounted) <= FEW:
+        if text and len(self.uncounted) <= MANY:
             return
         if b"error " in self.uncounted:
             self.errors.update(word for _, word in ERROR.findall(self.uncounted))

@@ -2,50 +2,17 @@
 
 A file is known again by its identity, which is device and inode, and by a sum of bytes that were read of it.
 """
-import fcntl
 import glob
 import os
 import re
-import sys
-import termios
 from contextlib import suppress
 
 from keeper import Fault, log
 from keeper.checkpoint import Mark, sum_at
+from keeper.stream import PIECE, Lines
 
-# how many bytes are read at once; and where fewer came last, as room for few is had sooner
-PIECE, FEW = 1 << 14, 448
-LONGEST = 1024
 AT, TOKEN = ord("@"), re.compile(rb"^--@ ([^\r\n]{1,200})\r?\n", re.MULTILINE)
 RENAMED = re.compile(r"(?:\.(\d{1,4})|[-.]\d[-.\d_:T]*)?\Z")
-
-
-def waiting(fd):
-    """How many bytes wait in a pipe; none where it is closed, or is no pipe."""
-    with suppress(OSError):
-        return int.from_bytes(fcntl.ioctl(fd, termios.FIONREAD, bytes(4)), sys.byteorder)
-    return 0
-
-
-class Lines:
-    """What is read from a handle, as whole lines.
-
-    bq answers a line of more than 1,024 bytes by LineTooLong whatever it says, and writes none. So of one that has not
-    ended no more is kept than shows that, and memory does not grow with it.
-    """
-
-    def __init__(self, fd, came=0):
-        # how many bytes came, how many of them are of a line that has not ended, its front; and how many are read next
-        self.fd, self.came, self.behind, self.rest, self.size = fd, came, 0, b"", PIECE
-
-    def cut(self, piece):
-        """Whole lines of what came."""
-        self.came, self.size = self.came + len(piece), FEW if len(piece) < FEW else PIECE
-        text = self.rest + piece
-        end = text.rfind(b"\n") + 1
-        self.behind = len(text) - end if end else self.behind + len(piece)
-        self.rest = text[end:][:LONGEST + 1]
-        return text[:end]
 
 
 class Source(Lines):
@@ -90,9 +57,7 @@ class Source(Lines):
         self.is_ended = True
         return self.end_of_line()
 
-    def lag(self):
-        """How many bytes wait."""
-        return waiting(self.fd)
+    lag = Lines.waiting
 
 
 def identity(file):

@@ -9,7 +9,6 @@ from contextlib import suppress
 
 from keeper import Busy, log
 from keeper.checkpoint import locked, numbers_in, path_of, save
-from keeper.source import waiting
 
 CELLS = re.compile(rb"reply ok query \w+ parts \d+ cells (\d+) ")
 CELLS_A_PAGE = 64
@@ -20,9 +19,8 @@ class Watch:
 
     def __init__(self, run, options):
         self.run, self.restarts, self.failures = run, 0, 0
-        self.paths = [it for it in (os.path.join(options.folder, "metrics"), options.metrics) if it]
-        # those that could not be written
-        self.untold = set()
+        # where numbers stand, and where they could not be written
+        self.paths, self.untold = {os.path.join(options.folder, "metrics"), options.metrics} - {None}, set()
         # of the newest checkpoint of this run its size, how long the disk took for it, and when it stood
         self.size, self.seconds, self.stored_at = 0, 0, time.monotonic()
         self.next_look, self.rate, self.good_lines = 0, 0, run.source.lines
@@ -34,7 +32,7 @@ class Watch:
         """What each number says, and the number; those that end in `total` only grow."""
         run, kept, session = self.run, self.run.kept, self.run.session
         run.sink.count()
-        unwritten = len(run.sink.pending) + (waiting(session.replies.fd) if session else 0)
+        unwritten = len(run.sink.pending) + (session.replies.waiting() if session else 0)
         pages = sum(-(-int(found[1]) // CELLS_A_PAGE) for found in map(CELLS.match, kept.plan or ()) if found)
         return {
             "up": ("1 where the session takes lines", int(bool(kept.number and session and session.is_begun))),
@@ -88,7 +86,7 @@ def text_of(numbers):
             lines += [f'keep_{name}{{{label}="{key.decode()}"}} {it}' for key, it in sorted(value.items())]
         else:
             lines.append(f"keep_{name} {value:.10g}")
-    return "\n".join(lines) + "\n"
+    return "\n".join([*lines, ""])
 
 
 def begin_log(path):

@@ -1,5 +1,7 @@
 -- The place of a fault in its text, below which a mark stands.
 use Rattle.std.specs.Prelude.{ℕ, zero, suc, ◌+◌, ◌-◌, ◌==◌, ℤ, Bool, true, false, not, ◌&&◌, List, [], ◌∷◌, length, nat_lt, slice_range, if◌then◌else◌, Option, Some, None, Result, Ok, Err}
+use Rattle.std.specs.List.{find}
+use Rattle.std.specs.Option.{option_map}
 use Rattle.std.specs.Str.{bytes_eq}
 use Rattle.sql_text.specs.Blank.{without_blanks_before}
 use Rattle.sql_text.specs.Value.{value_of}
@@ -22,10 +24,9 @@ use Rattle.adv_diagnosis.specs.declared.marks.Anchor.TheVariants as anchors
 abbrev pub is_piece : List ℕ → Token → List ℕ → Bool
 is_piece line t name = bytes_eq (slice_range line t.from t.to) name
 
--- where the first of these tokens begins that is a name
-abbrev pub named_place : List ℕ → List ℕ → List Token → Option ℕ
-named_place line name [] = None
-named_place line name (t ∷ ts) = if is_piece line t name then Some t.from else named_place line name ts
+-- the first of these tokens that is a name
+abbrev pub named : List ℕ → List ℕ → List Token → Option Token
+named line name ts = find (λ t. is_piece line t name) ts
 
 -- the tokens behind the first that is a name
 abbrev pub behind_named : List ℕ → List ℕ → List Token → List Token
@@ -70,24 +71,19 @@ abbrev pub behind_anchor : Anchor → List Token → List Token
 behind_anchor anchor [] = []
 behind_anchor anchor (t ∷ ts) = if is_anchor anchor t.kind then ts else behind_anchor anchor ts
 
--- where a name stands for the second time among tokens
-abbrev pub again_place : List ℕ → List ℕ → List Token → Option ℕ
-again_place line name ts = named_place line name (behind_named line name ts)
+-- the second of these tokens that is a name
+abbrev pub named_again : List ℕ → List ℕ → List Token → Option Token
+named_again line name ts = named line name (behind_named line name ts)
 
--- whether a point and a name stand here
-abbrev pub begins_column : List ℕ → List ℕ → List Token → Bool
-begins_column line name (p ∷ t ∷ ts) = is_point p.kind && is_piece line t name
-begins_column line name _ = false
+-- whether a column stands here: its stream, a point and its name
+abbrev pub is_column : List ℕ → ColumnAst → List Token → Bool
+is_column line c (t ∷ p ∷ u ∷ ts) = is_piece line t c.stream && is_point p.kind && is_piece line u c.column
+is_column line c _ = false
 
--- where the first three of these tokens begin that are a column: its stream, a point and its name
-abbrev pub column_place : List ℕ → ColumnAst → List Token → Option ℕ
-column_place line c [] = None
-column_place line c (t ∷ ts) = if is_piece line t c.stream && begins_column line c.column ts then Some t.from else column_place line c ts
-
--- where the first word begins that is too long for a name
-abbrev pub long_place : List Token → Option ℕ
-long_place [] = None
-long_place (t ∷ ts) = if is_long_token t then Some t.from else long_place ts
+-- the first of these tokens with which a column begins
+abbrev pub column_named : List ℕ → ColumnAst → List Token → Option Token
+column_named line c [] = None
+column_named line c (t ∷ ts) = if is_column line c (t ∷ ts) then Some t else column_named line c ts
 
 -- whether an integer is one that a statement may not have: one of more than 64 bits, and where it may not have all of those one that is far
 abbrev pub is_beyond : Bool → Option ℤ → Bool
@@ -97,11 +93,6 @@ is_beyond wide None = true
 -- whether a token is such an integer
 abbrev pub is_beyond_at : List ℕ → Bool → Token → Bool
 is_beyond_at line wide t = is_integer_kind t.kind && is_beyond wide (value_of (slice_range line t.from t.to))
-
--- where the first such integer begins
-abbrev pub beyond_place : List ℕ → Bool → List Token → Option ℕ
-beyond_place line wide [] = None
-beyond_place line wide (t ∷ ts) = if is_beyond_at line wide t then Some t.from else beyond_place line wide ts
 
 -- whether a statement whose integers may have all of 64 bits begins with a token: RESUME, or a word that is not reserved
 abbrev pub begins_wide : TokenKind → Bool
@@ -118,30 +109,30 @@ has_wide (t ∷ ts) = begins_wide t.kind
 abbrev pub behind_to : List Token → List Token
 behind_to ts = behind_anchor anchors.Word (behind_anchor anchors.Word ts)
 
--- the place of a limit that is passed, where one name or more is too long, or one integer or more too far
-abbrev pub limit_place : List ℕ → What → List Token → Option ℕ
-limit_place line limits.Name ts = long_place ts
-limit_place line limits.Value ts = beyond_place line (has_wide ts) ts
-limit_place line _ ts = None
+-- the token that passes a limit: the first name that is too long, or the first integer that is too far
+abbrev pub token_beyond : List ℕ → What → List Token → Option Token
+token_beyond line limits.Name ts = find is_long_token ts
+token_beyond line limits.Value ts = find (is_beyond_at line (has_wide ts)) ts
+token_beyond line _ ts = None
 
--- the place of a fault of a statement among its tokens, where its sentence is of one name
-abbrev pub token_place : List ℕ → Fault → List Token → Option ℕ
-token_place line (faults.Limit what found) ts = limit_place line what ts
-token_place line (faults.DuplicateStream name) ts = named_place line name ts
-token_place line (faults.DuplicateColumn name) ts = again_place line name (behind_anchor anchors.Opening ts)
-token_place line (faults.DuplicateQuery name) ts = named_place line name (behind_anchor anchors.Query ts)
-token_place line (faults.NoStream name) ts = named_place line name (behind_anchor anchors.From ts)
-token_place line (faults.NotInFrom column) ts = column_place line column ts
-token_place line (faults.NoColumn column) ts = column_place line column ts
-token_place line (faults.SelfJoin name) ts = again_place line name (behind_anchor anchors.From ts)
-token_place line (faults.NoQuery name) ts = named_place line name ts
-token_place line (faults.LockTwice name) ts = again_place line name (behind_to ts)
-token_place line (faults.LockNoStream name) ts = named_place line name (behind_to ts)
-token_place line _ ts = None
+-- the token of a fault of a statement, where its sentence is of one name
+abbrev pub token_of : List ℕ → Fault → List Token → Option Token
+token_of line (faults.Limit what found) ts = token_beyond line what ts
+token_of line (faults.DuplicateStream name) ts = named line name ts
+token_of line (faults.DuplicateColumn name) ts = named_again line name (behind_anchor anchors.Opening ts)
+token_of line (faults.DuplicateQuery name) ts = named line name (behind_anchor anchors.Query ts)
+token_of line (faults.NoStream name) ts = named line name (behind_anchor anchors.From ts)
+token_of line (faults.NotInFrom column) ts = column_named line column ts
+token_of line (faults.NoColumn column) ts = column_named line column ts
+token_of line (faults.SelfJoin name) ts = named_again line name (behind_anchor anchors.From ts)
+token_of line (faults.NoQuery name) ts = named line name ts
+token_of line (faults.LockTwice name) ts = named_again line name (behind_to ts)
+token_of line (faults.LockNoStream name) ts = named line name (behind_to ts)
+token_of line _ ts = None
 
--- its place in a text that is cut into these tokens
+-- the place of that token in a text that is cut into these tokens
 abbrev pub place_by : List ℕ → Fault → Result (List Token) ℕ → Option ℕ
-place_by line fault (Ok ts) = token_place line fault ts
+place_by line fault (Ok ts) = option_map (λ t. t.from) (token_of line fault ts)
 place_by line fault (Err at) = None
 
 -- what stands behind so many commas

@@ -15,21 +15,15 @@ fn is_no_value(field: &[u8]) -> bool
     read_i64(trim(field)).is_none()
 }
 
-// Whether a value lies outside a domain, where there is one.
-fn lies_outside(domain: Option<(i64, i64)>, value: i64) -> bool
-    ensures { result ≡ faults.lies_outside domain value }
-{
-    match domain {
-        Some((lo, hi)) => value < lo || hi < value,
-        None => false,
-    }
-}
-
-// Whether the value of a field, 0 where it has none, lies outside the domain of a column.
+// Whether the value of a field, 0 where it has none, lies outside the domain of a column, where there is one.
 fn is_outside(column: &ColumnDef, field: &[u8]) -> bool
     ensures { result ≡ faults.is_outside column.now field.now }
 {
-    lies_outside(column.domain, read_i64(trim(field)).unwrap_or(0))
+    let value = read_i64(trim(field)).unwrap_or(0);
+    match column.domain {
+        Some((lo, hi)) => value < lo || hi < value,
+        None => false,
+    }
 }
 
 /// Returns the text behind the first comma of a row line, where there is one: its fields, with commas between them.

@@ -1,5 +1,6 @@
 //! The place of a fault in its text, below which a mark stands.
-ghost use Rattle.std.specs.Prelude.{◌≡◌, ◌≤◌, ◌&&◌, length, slice_range};
+ghost use Rattle.std.specs.Prelude.{◌≡◌, ◌≤◌, length, option_copied, slice_range};
+ghost use Rattle.std.specs.List.{find};
 ghost use Rattle.sql_text.specs.Blank.{without_blanks_before};
 ghost use Rattle.sql_lexer.specs.Tokens.{tokens};
 ghost use Rattle.sql_parser.specs.DraftLimits.{is_long_token};
@@ -44,20 +45,11 @@ fn is_piece(line: &[u8], token: &Token, name: &Name) -> bool
     *piece_of(line, token) == *name.bytes()
 }
 
-// Where the first of these tokens begins that is a name.
-fn named_place(line: &[u8], name: &Name, tokens: &[Token]) -> Option<u16>
-    ensures { result ≡ marks.named_place line.now name.now tokens.now }
+// The first of these tokens that is a name.
+fn named<'a>(line: &[u8], name: &Name, tokens: &'a [Token]) -> Option<&'a Token>
+    ensures { option_copied result ≡ marks.named line.now name.now tokens.now }
 {
-    match tokens {
-        [] => None,
-        [first, others @ ..] => {
-            if is_piece(line, first, name) {
-                Some(first.from)
-            } else {
-                named_place(line, name, others)
-            }
-        }
-    }
+    tokens.iter().find(|token| is_piece(line, token, name))
 }
 
 // The tokens behind the first that is a name.
@@ -113,41 +105,38 @@ pub fn behind_anchor(anchor: Anchor, tokens: &[Token]) -> &[Token]
     }
 }
 
-// Where a name stands for the second time among tokens.
-fn again_place(line: &[u8], name: &Name, tokens: &[Token]) -> Option<u16>
-    ensures { result ≡ marks.again_place line.now name.now tokens.now }
+// The second of these tokens that is a name.
+fn named_again<'a>(line: &[u8], name: &Name, tokens: &'a [Token]) -> Option<&'a Token>
+    ensures { option_copied result ≡ marks.named_again line.now name.now tokens.now }
 {
-    named_place(line, name, behind_named(line, name, tokens))
+    named(line, name, behind_named(line, name, tokens))
 }
 
-// Whether a point and a name stand here.
-fn begins_column(line: &[u8], name: &Name, tokens: &[Token]) -> bool
-    ensures { result ≡ marks.begins_column line.now name.now tokens.now }
+// Whether a column stands here: its stream, a point and its name.
+fn is_column(line: &[u8], column: &ColumnAst, tokens: &[Token]) -> bool
+    ensures { result ≡ marks.is_column line.now column.now tokens.now }
 {
     match tokens {
-        [point, last, ..] => is_point(point.kind) && is_piece(line, last, name),
+        [first, point, last, ..] => {
+            is_piece(line, first, &column.stream)
+                && is_point(point.kind)
+                && is_piece(line, last, &column.column)
+        }
         _ => false,
     }
 }
 
-// Whether a column stands here: its stream, a point and its name.
-fn is_column(line: &[u8], column: &ColumnAst, first: &Token, others: &[Token]) -> bool
-    ensures { result ≡ (marks.is_piece line.now first.now column.now.stream && marks.begins_column line.now column.now.column others.now) }
-{
-    is_piece(line, first, &column.stream) && begins_column(line, &column.column, others)
-}
-
-// Where the first of these tokens begins that are a column.
-fn column_place(line: &[u8], column: &ColumnAst, tokens: &[Token]) -> Option<u16>
-    ensures { result ≡ marks.column_place line.now column.now tokens.now }
+// The first of these tokens with which a column begins.
+fn column_named<'a>(line: &[u8], column: &ColumnAst, tokens: &'a [Token]) -> Option<&'a Token>
+    ensures { option_copied result ≡ marks.column_named line.now column.now tokens.now }
 {
     match tokens {
         [] => None,
         [first, others @ ..] => {
-            if is_column(line, column, first, others) {
-                Some(first.from)
+            if is_column(line, column, tokens) {
+                Some(first)
             } else {
-                column_place(line, column, others)
+                column_named(line, column, others)
             }
         }
     }
@@ -163,20 +152,11 @@ pub fn is_long(token: &Token) -> bool
     }
 }
 
-// Where the first word begins that is too long for a name.
-fn long_place(tokens: &[Token]) -> Option<u16>
-    ensures { result ≡ marks.long_place tokens.now }
+// The first word that is too long for a name.
+fn long_word(tokens: &[Token]) -> Option<&Token>
+    ensures { option_copied result ≡ find is_long_token tokens.now }
 {
-    match tokens {
-        [] => None,
-        [first, others @ ..] => {
-            if is_long(first) {
-                Some(first.from)
-            } else {
-                long_place(others)
-            }
-        }
-    }
+    tokens.iter().find(|token| is_long(token))
 }
 
 // Whether an integer is one that a statement may not have, by whether it may have all of 64 bits.
@@ -199,20 +179,11 @@ fn is_beyond_at(line: &[u8], wide: bool, token: &Token) -> bool
     }
 }
 
-// Where the first integer begins that a statement may not have.
-fn beyond_place(line: &[u8], wide: bool, tokens: &[Token]) -> Option<u16>
-    ensures { result ≡ marks.beyond_place line.now wide tokens.now }
+// The first integer that a statement may not have.
+fn far_integer<'a>(line: &[u8], wide: bool, tokens: &'a [Token]) -> Option<&'a Token>
+    ensures { option_copied result ≡ find (marks.is_beyond_at line.now wide) tokens.now }
 {
-    match tokens {
-        [] => None,
-        [first, others @ ..] => {
-            if is_beyond_at(line, wide, first) {
-                Some(first.from)
-            } else {
-                beyond_place(line, wide, others)
-            }
-        }
-    }
+    tokens.iter().find(|token| is_beyond_at(line, wide, token))
 }
 
 // Whether these are the tokens of a line of a checkpoint, which begins with RESUME, or of a lock, which begins with a word that is not
@@ -236,37 +207,35 @@ fn behind_to(tokens: &[Token]) -> &[Token]
     behind_anchor(Anchor::Word, behind_anchor(Anchor::Word, tokens))
 }
 
-// The place of a limit that is passed.
-fn limit_place(line: &[u8], what: What, tokens: &[Token]) -> Option<u16>
-    ensures { result ≡ marks.limit_place line.now what tokens.now }
+// The token that passes a limit.
+fn token_beyond<'a>(line: &[u8], what: What, tokens: &'a [Token]) -> Option<&'a Token>
+    ensures { option_copied result ≡ marks.token_beyond line.now what tokens.now }
 {
     match what {
-        What::Name => long_place(tokens),
-        What::Value => beyond_place(line, has_wide(tokens), tokens),
+        What::Name => long_word(tokens),
+        What::Value => far_integer(line, has_wide(tokens), tokens),
         _ => None,
     }
 }
 
-// The place of a fault of a statement among its tokens, where its sentence is of one name.
-fn token_place(line: &[u8], fault: &Fault, tokens: &[Token]) -> Option<u16>
-    ensures { result ≡ marks.token_place line.now fault.now tokens.now }
+// The token of a fault of a statement, where its sentence is of one name.
+fn token_of<'a>(line: &[u8], fault: &Fault, tokens: &'a [Token]) -> Option<&'a Token>
+    ensures { option_copied result ≡ marks.token_of line.now fault.now tokens.now }
 {
     match fault {
-        Fault::Limit { what, .. } => limit_place(line, *what, tokens),
-        Fault::DuplicateStream { name } => named_place(line, name, tokens),
+        Fault::Limit { what, .. } => token_beyond(line, *what, tokens),
+        Fault::DuplicateStream { name } => named(line, name, tokens),
         Fault::DuplicateColumn { name } => {
-            again_place(line, name, behind_anchor(Anchor::Opening, tokens))
+            named_again(line, name, behind_anchor(Anchor::Opening, tokens))
         }
-        Fault::DuplicateQuery { name } => {
-            named_place(line, name, behind_anchor(Anchor::Query, tokens))
-        }
-        Fault::NoStream { name } => named_place(line, name, behind_anchor(Anchor::From, tokens)),
-        Fault::NotInFrom { column } => column_place(line, column, tokens),
-        Fault::NoColumn { column } => column_place(line, column, tokens),
-        Fault::SelfJoin { name } => again_place(line, name, behind_anchor(Anchor::From, tokens)),
-        Fault::NoQuery { name } => named_place(line, name, tokens),
-        Fault::LockTwice { name } => again_place(line, name, behind_to(tokens)),
-        Fault::LockNoStream { name } => named_place(line, name, behind_to(tokens)),
+        Fault::DuplicateQuery { name } => named(line, name, behind_anchor(Anchor::Query, tokens)),
+        Fault::NoStream { name } => named(line, name, behind_anchor(Anchor::From, tokens)),
+        Fault::NotInFrom { column } => column_named(line, column, tokens),
+        Fault::NoColumn { column } => column_named(line, column, tokens),
+        Fault::SelfJoin { name } => named_again(line, name, behind_anchor(Anchor::From, tokens)),
+        Fault::NoQuery { name } => named(line, name, tokens),
+        Fault::LockTwice { name } => named_again(line, name, behind_to(tokens)),
+        Fault::LockNoStream { name } => named(line, name, behind_to(tokens)),
         _ => None,
     }
 }
@@ -277,7 +246,7 @@ fn statement_place(text: &[u8], fault: &Fault) -> Option<u16>
     ensures { result ≡ marks.place_by text.now fault.now (tokens text.now) }
 {
     match lex(text) {
-        Ok(tokens) => token_place(text, fault, tokens.as_slice()),
+        Ok(tokens) => Some(token_of(text, fault, tokens.as_slice())?.from),
         Err(_) => None,
     }
 }

@@ -1,5 +1,5 @@
 //! Names of a query that stand for no stream and for no column.
-ghost use Rattle.std.specs.Prelude.{◌≡◌, ◌≤◌, ◌<◌, ◌+◌, ◌++◌, length};
+ghost use Rattle.std.specs.Prelude.{◌≡◌, ◌≤◌, ◌<◌, ◌+◌, ◌++◌, length, option_copied};
 ghost use Rattle.std.specs.List.{find};
 ghost use Rattle.sql_parser.specs.Limits.{column_in, columns_in};
 ghost use Rattle.sql_parser.specs.Resolution as resolution;
@@ -50,51 +50,24 @@ fn is_no_column(column: &ColumnAst, catalog: &Catalog) -> bool
 }
 
 /// Returns the first name that is that of no stream.
-pub fn unknown_stream(names: &[Name], catalog: &Catalog) -> Option<Name>
-    ensures { result ≡ find (faults.is_no_stream catalog.now) names.now }
+pub fn unknown_stream<'a>(names: &'a [Name], catalog: &Catalog) -> Option<&'a Name>
+    ensures { option_copied result ≡ find (faults.is_no_stream catalog.now) names.now }
 {
-    match names {
-        [] => None,
-        [first, others @ ..] => {
-            if is_no_stream(first, catalog) {
-                Some(*first)
-            } else {
-                unknown_stream(others, catalog)
-            }
-        }
-    }
+    names.iter().find(|name| is_no_stream(name, catalog))
 }
 
 // The first column whose stream is not in FROM.
-fn column_outside(columns: &[ColumnAst], from: &[Name]) -> Option<ColumnAst>
-    ensures { result ≡ find (faults.is_not_from from.now) columns.now }
+fn column_outside<'a>(columns: &'a [ColumnAst], from: &[Name]) -> Option<&'a ColumnAst>
+    ensures { option_copied result ≡ find (faults.is_not_from from.now) columns.now }
 {
-    match columns {
-        [] => None,
-        [first, others @ ..] => {
-            if is_not_from(from, first) {
-                Some(*first)
-            } else {
-                column_outside(others, from)
-            }
-        }
-    }
+    columns.iter().find(|column| is_not_from(from, column))
 }
 
 // The first column that is none of its stream.
-fn unknown_column(columns: &[ColumnAst], catalog: &Catalog) -> Option<ColumnAst>
-    ensures { result ≡ find (faults.is_no_column catalog.now) columns.now }
+fn unknown_column<'a>(columns: &'a [ColumnAst], catalog: &Catalog) -> Option<&'a ColumnAst>
+    ensures { option_copied result ≡ find (faults.is_no_column catalog.now) columns.now }
 {
-    match columns {
-        [] => None,
-        [first, others @ ..] => {
-            if is_no_column(first, catalog) {
-                Some(*first)
-            } else {
-                unknown_column(others, catalog)
-            }
-        }
-    }
+    columns.iter().find(|column| is_no_column(column, catalog))
 }
 
 // Adds the column that a side of an atom is.
@@ -133,50 +106,24 @@ fn named_columns(select: &SelectAst) -> ArrayVec<ColumnAst, 40>
     columns
 }
 
-// The first name of FROM that is that of no stream.
-fn stream_lacking(select: &SelectAst, catalog: &Catalog) -> Option<Name>
-    ensures { result ≡ find (faults.is_no_stream catalog.now) select.now.from.items }
-{
-    unknown_stream(select.from.as_slice(), catalog)
-}
-
-// The first column whose stream FROM does not name.
-fn column_beyond(select: &SelectAst) -> Option<ColumnAst>
-    ensures { result ≡ find (faults.is_not_from select.now.from.items) (resolution.named_columns select.now) }
-{
-    let columns = named_columns(select);
-    column_outside(columns.as_slice(), select.from.as_slice())
-}
-
-// The first column that its stream does not have.
-fn column_lacking(select: &SelectAst, catalog: &Catalog) -> Option<ColumnAst>
-    ensures { result ≡ find (faults.is_no_column catalog.now) (resolution.named_columns select.now) }
-{
-    let columns = named_columns(select);
-    unknown_column(columns.as_slice(), catalog)
-}
-
-// The first name that FROM has twice.
-fn stream_again(select: &SelectAst) -> Option<Name>
-    ensures { result ≡ faults.first_repeated select.now.from.items }
-{
-    repeated_name(select.from.as_slice())
-}
-
 /// Returns the first cause why the names of a query stand for none, where there is one.
+#[tactic(auto, using(crate::proofs::NamesThere::no_stream, crate::proofs::NamesThere::not_in_from, crate::proofs::NamesThere::no_column, crate::proofs::NamesThere::self_join, crate::proofs::NamesThere::all_there))]
 pub fn query_fault(select: &SelectAst, catalog: &Catalog) -> Option<Fault>
     ensures { IsNameFault catalog.now select.now result }
 {
-    if let Some(name) = stream_lacking(select, catalog) {
-        return Some(Fault::NoStream { name });
+    let from = select.from.as_slice();
+    let named = named_columns(select);
+    let columns = named.as_slice();
+    if let Some(name) = unknown_stream(from, catalog) {
+        return Some(Fault::NoStream { name: *name });
     }
-    if let Some(column) = column_beyond(select) {
-        return Some(Fault::NotInFrom { column });
+    if let Some(column) = column_outside(columns, from) {
+        return Some(Fault::NotInFrom { column: *column });
     }
-    if let Some(column) = column_lacking(select, catalog) {
-        return Some(Fault::NoColumn { column });
+    if let Some(column) = unknown_column(columns, catalog) {
+        return Some(Fault::NoColumn { column: *column });
     }
-    if let Some(name) = stream_again(select) {
+    if let Some(name) = repeated_name(from) {
         return Some(Fault::SelfJoin { name });
     }
     None

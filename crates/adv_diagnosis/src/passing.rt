@@ -9,7 +9,7 @@ ghost use Rattle.sql_parser.specs.Limits.{limit_of, number_of_different};
 ghost use Rattle.sql_parser.specs.declared.tree.Statement.{Statement};
 ghost use Rattle.sql_parser.specs.Syntax.{IsStatement};
 ghost use Rattle.adv_diagnosis.specs.Counted as counts;
-ghost use Rattle.adv_diagnosis.specs.Counted.{count_of, selected_number, from_number, integer_at, integer_with, integers_at, long_bytes, found_by};
+ghost use Rattle.adv_diagnosis.specs.Counted.{count_of, selected_number, from_number, integer_with, integers_at, long_bytes, found_by};
 ghost use Rattle.adv_diagnosis.specs.Passed.{found_in};
 
 use crate::compared::different_columns;
@@ -86,13 +86,6 @@ fn from_streams(tokens: &[Token]) -> u16
     (count(Counted::Comma, tokens) + 2).saturating_sub(selected(tokens))
 }
 
-// The integer that a token is, 0 where it has more than 64 bits.
-fn value_at(line: &[u8], token: &Token) -> i64
-    ensures { result ≡ integer_at line.now token.now }
-{
-    read_i64(piece_of(line, token)).unwrap_or(0)
-}
-
 // Adds the integer that a token is.
 fn put_value(values: &mut ArrayVec<i64, 1024>, line: &[u8], token: &Token)
     requires { length values.old.items ≤ 1023 }
@@ -100,7 +93,7 @@ fn put_value(values: &mut ArrayVec<i64, 1024>, line: &[u8], token: &Token)
     ensures short { length values.new.items ≤ length values.old.items + 1 }
 {
     if is_counted(Counted::Integer, token.kind) {
-        values.push(value_at(line, token));
+        values.push(read_i64(piece_of(line, token)).unwrap_or(0));
     }
 }
 

@@ -103,7 +103,7 @@ fn diagnose_lock(
         return Err(Fault::LockTwice { name });
     }
     if let Some(name) = unknown_stream(streams.as_slice(), known.catalog) {
-        return Err(Fault::LockNoStream { name });
+        return Err(Fault::LockNoStream { name: *name });
     }
     Ok(Asks::Lock { key, streams })
 }

@@ -1,6 +1,5 @@
 //! What a statement most likely meant where it leaves the grammar, by the bytes around that place and by what may stand there.
 ghost use Rattle.std.specs.Prelude.{◌≡◌, ◌||◌, ◌&&◌, ◌==◌};
-ghost use Rattle.std.specs.Option.{option_or};
 ghost use Rattle.adv_hints.specs.Groups as groups;
 ghost use Rattle.adv_hints.specs.declared.groups.Group.TheVariants as kinds;
 ghost use Rattle.adv_hints.specs.Hints as hints;
@@ -15,81 +14,43 @@ use sql_text::{is_letter, key_of, split_word, trim};
 /// What a statement most likely meant where it leaves the grammar.
 #[derive(Clone, Copy, Debug, PartialEq, Eq)]
 pub enum Hint {
-    /// A byte order mark stands before it.
     ByteOrderMark,
-    /// A quotation mark.
     Quoted,
-    /// `!=` for `<>`.
     Unequal,
-    /// `*` for all columns.
     Star,
-    /// `=<` for `<=`.
     AtMost,
-    /// `=>` for `>=`.
     AtLeast,
-    /// `==` for `=`.
     Equal,
-    /// An integer with a point and digits behind it.
     Decimal,
-    /// OR, which joins no comparisons.
     Or,
-    /// A column without its stream.
     BareColumn,
-    /// A reserved word for a name.
     ReservedName,
-    /// A row without commas.
     BareRow,
-    /// A comment behind a statement, or one that begins otherwise.
     Comment,
-    /// A domain without its two points.
     Interval,
-    /// A sum, difference, product or quotient.
     Arithmetic,
-    /// A name with a hyphen in it.
     Hyphen,
-    /// A comma behind the last of a list.
     CommaAtEnd,
-    /// A function, as COUNT.
     Function,
-    /// A parenthesis around comparisons.
     Parenthesis,
-    /// NOT before a comparison.
     Negation,
-    /// BETWEEN for two comparisons.
     Between,
-    /// LIKE, which compares texts.
     Pattern,
-    /// IS NULL.
     Null,
-    /// SHARED behind COMPACT or QUERY.
     Order,
-    /// JOIN and ON for FROM and WHERE.
     Join,
-    /// ORDER BY and the like.
     Clause,
-    /// IN with a list of values.
     Choice,
-    /// A query without CREATE QUERY before it.
     BareQuery,
-    /// A second name for a stream or a column.
     Alias,
-    /// The type of a column.
     Typed,
-    /// A comparison with a third side.
     Chained,
-    /// A row without the name of its stream.
     Streamless,
-    /// An integer with an exponent.
     Exponent,
-    /// DROP STREAM.
     DropStream,
-    /// EXPLAIN before a query in place of its name.
     ExplainQuery,
-    /// CREATE OR REPLACE.
     Replace,
-    /// SHOW.
     Show,
-    /// A line that goes on with a statement of the line before.
     Continued,
 }
 
@@ -118,18 +79,6 @@ fn is_digit(byte: u8) -> bool
     byte.is_ascii_digit()
 }
 
-// The sign of two bytes that is written in the other order or once, by its second byte.
-fn sign_behind_equal(first: u8) -> Option<Hint>
-    ensures { result ≡ hints.sign_behind_equal first }
-{
-    match first {
-        b'<' => Some(Hint::AtMost),
-        b'>' => Some(Hint::AtLeast),
-        b'=' => Some(Hint::Equal),
-        _ => None,
-    }
-}
-
 // Whether a comment begins so.
 fn begins_comment(first: u8, second: u8) -> bool
     ensures { result ≡ hints.begins_comment first second }
@@ -146,13 +95,6 @@ fn is_operator(byte: u8) -> bool
     byte == b'+' || byte == b'-' || byte == b'*' || byte == b'/' || byte == b'%'
 }
 
-// Whether a side of a comparison, or what stands behind one, may stand there.
-fn wants_beside(next: &[Candidate]) -> bool
-    ensures { result ≡ (groups.wants kinds.BehindOperand next.now || groups.wants kinds.Operand next.now) }
-{
-    wants(Group::BehindOperand, next) || wants(Group::Operand, next)
-}
-
 // Whether a name or an integer ends with a byte, and the sign behind it can be no hyphen.
 fn ends_operand(before: u8, first: u8) -> bool
     ensures { result ≡ hints.ends_operand before first }
@@ -167,25 +109,7 @@ fn is_arithmetic(before: u8, first: u8, next: &[Candidate]) -> bool
     if next.is_empty() {
         is_operator(first) && ends_operand(before, first)
     } else {
-        is_operator(first) && wants_beside(next)
-    }
-}
-
-// Whether the sign of a comparison begins so.
-fn is_relation(byte: u8) -> bool
-    ensures { result ≡ hints.is_relation byte }
-{
-    byte == b'<' || byte == b'=' || byte == b'>'
-}
-
-// Whether a comparison has ended, and the next may follow.
-fn ends_comparison(next: &[Candidate]) -> bool
-    ensures { result ≡ hints.ends_comparison next.now }
-{
-    if wants(Group::Comparison, next) || wants(Group::Comma, next) {
-        false
-    } else {
-        wants(Group::BehindOperand, next)
+        is_operator(first) && (wants(Group::BehindOperand, next) || wants(Group::Operand, next))
     }
 }
 
@@ -193,7 +117,10 @@ fn ends_comparison(next: &[Candidate]) -> bool
 fn is_chained(first: u8, next: &[Candidate]) -> bool
     ensures { result ≡ hints.is_chained first next.now }
 {
-    is_relation(first) && ends_comparison(next)
+    (first == b'<' || first == b'=' || first == b'>')
+        && !wants(Group::Comparison, next)
+        && !wants(Group::Comma, next)
+        && wants(Group::BehindOperand, next)
 }
 
 // What is meant by `*`, the byte before it, and what may stand there.
@@ -226,13 +153,6 @@ fn opening_hint(next: &[Candidate]) -> Option<Hint>
     }
 }
 
-// Whether an integer with a point begins so, behind a digit.
-fn is_decimal(before: u8, first: u8, second: u8) -> bool
-    ensures { result ≡ (((first == 46) && bytes.is_digit before) && bytes.is_digit second) }
-{
-    first == b'.' && is_digit(before) && is_digit(second)
-}
-
 // What is meant by a sign that a name or an integer may have around it.
 fn mark_hint(before: u8, first: u8, second: u8, next: &[Candidate]) -> Option<Hint>
     ensures { result ≡ hints.mark_hint before first second next.now }
@@ -243,7 +163,7 @@ fn mark_hint(before: u8, first: u8, second: u8, next: &[Candidate]) -> Option<Hi
     if first == b'-' && !is_digit(second) {
         return Some(Hint::Hyphen);
     }
-    if is_decimal(before, first, second) {
+    if first == b'.' && is_digit(before) && is_digit(second) {
         return Some(Hint::Decimal);
     }
     if before == b',' && first == b')' {
@@ -252,10 +172,11 @@ fn mark_hint(before: u8, first: u8, second: u8, next: &[Candidate]) -> Option<Hi
     if first == b'(' {
         return opening_hint(next);
     }
-    if before == b'=' {
-        sign_behind_equal(first)
-    } else {
-        None
+    match first {
+        b'<' if before == b'=' => Some(Hint::AtMost),
+        b'>' if before == b'=' => Some(Hint::AtLeast),
+        b'=' if before == b'=' => Some(Hint::Equal),
+        _ => None,
     }
 }
 
@@ -287,31 +208,8 @@ fn sign_hint(before: u8, first: u8, second: u8, next: &[Candidate]) -> Option<Hi
     mark_hint(before, first, second, next)
 }
 
-// Whether streams are joined by this word elsewhere.
-#[tactic(auto, unfolding(crate::specs::Hints::is_join))]
-fn is_join(word: &[u8]) -> bool
-    ensures { result ≡ hints.is_join word.now }
-{
-    word.eq_ignore_ascii_case(b"JOIN")
-        || word.eq_ignore_ascii_case(b"INNER")
-        || word.eq_ignore_ascii_case(b"LEFT")
-        || word.eq_ignore_ascii_case(b"ON")
-}
-
-// Whether a clause of queries begins with this word elsewhere.
-#[tactic(auto, unfolding(crate::specs::Hints::is_clause))]
-fn is_clause(word: &[u8]) -> bool
-    ensures { result ≡ hints.is_clause word.now }
-{
-    word.eq_ignore_ascii_case(b"ORDER")
-        || word.eq_ignore_ascii_case(b"GROUP")
-        || word.eq_ignore_ascii_case(b"HAVING")
-        || word.eq_ignore_ascii_case(b"LIMIT")
-        || word.eq_ignore_ascii_case(b"WINDOW")
-}
-
 // What is meant by a word alone.
-#[tactic(auto, unfolding(crate::specs::Hints::spelled_hint))]
+#[tactic(auto, unfolding(crate::specs::Hints::spelled_hint, crate::specs::Hints::is_join, crate::specs::Hints::is_clause))]
 fn spelled_hint(word: &[u8]) -> Option<Hint>
     ensures { result ≡ hints.spelled_hint word.now }
 {
@@ -327,25 +225,26 @@ fn spelled_hint(word: &[u8]) -> Option<Hint>
     if word.eq_ignore_ascii_case(b"SHARED") {
         return Some(Hint::Order);
     }
-    if is_join(word) {
+    if word.eq_ignore_ascii_case(b"JOIN")
+        || word.eq_ignore_ascii_case(b"INNER")
+        || word.eq_ignore_ascii_case(b"LEFT")
+        || word.eq_ignore_ascii_case(b"ON")
+    {
         return Some(Hint::Join);
     }
-    if is_clause(word) {
+    if word.eq_ignore_ascii_case(b"ORDER")
+        || word.eq_ignore_ascii_case(b"GROUP")
+        || word.eq_ignore_ascii_case(b"HAVING")
+        || word.eq_ignore_ascii_case(b"LIMIT")
+        || word.eq_ignore_ascii_case(b"WINDOW")
+    {
         return Some(Hint::Clause);
     }
     None
 }
 
-// Whether a list ends at this word.
-#[tactic(auto, unfolding(crate::specs::Hints::ends_list))]
-fn ends_list(word: &[u8]) -> bool
-    ensures { result ≡ hints.ends_list word.now }
-{
-    word.eq_ignore_ascii_case(b"FROM") || word.eq_ignore_ascii_case(b"WHERE")
-}
-
 // What is meant by a reserved word, the byte before it, and what may stand there.
-#[tactic(auto, unfolding(crate::specs::Hints::reserved_hint))]
+#[tactic(auto, unfolding(crate::specs::Hints::reserved_hint, crate::specs::Hints::ends_list))]
 fn reserved_hint(word: &[u8], before: u8, next: &[Candidate]) -> Option<Hint>
     ensures { result ≡ hints.reserved_hint word.now before next.now }
 {
@@ -358,24 +257,13 @@ fn reserved_hint(word: &[u8], before: u8, next: &[Candidate]) -> Option<Hint>
     if word.eq_ignore_ascii_case(b"AS") && wants(Group::Comma, next) {
         return Some(Hint::Alias);
     }
-    if before == b',' && ends_list(word) {
+    if before == b','
+        && (word.eq_ignore_ascii_case(b"FROM") || word.eq_ignore_ascii_case(b"WHERE"))
+    {
         return Some(Hint::CommaAtEnd);
     }
     if wants(Group::Name, next) {
         Some(Hint::ReservedName)
-    } else {
-        None
-    }
-}
-
-// What is meant by a word that is not reserved, and what may stand there.
-fn other_hint(next: &[Candidate]) -> Option<Hint>
-    ensures { result ≡ hints.other_hint next.now }
-{
-    if wants(Group::Domain, next) {
-        Some(Hint::Typed)
-    } else if wants(Group::Where, next) {
-        Some(Hint::Alias)
     } else {
         None
     }
@@ -386,12 +274,15 @@ fn placed_hint(word: &[u8], before: u8, next: &[Candidate]) -> Option<Hint>
     ensures { result ≡ hints.placed_hint word.now before next.now }
 {
     if word.is_empty() {
-        return None;
-    }
-    if key_of(word).is_some() {
+        None
+    } else if key_of(word).is_some() {
         reserved_hint(word, before, next)
+    } else if wants(Group::Domain, next) {
+        Some(Hint::Typed)
+    } else if wants(Group::Where, next) {
+        Some(Hint::Alias)
     } else {
-        other_hint(next)
+        None
     }
 }
 
@@ -402,13 +293,6 @@ fn ends_with_not(text: &[u8]) -> bool
 {
     let end = text.split_at(text.len().saturating_sub(4)).1;
     end.eq_ignore_ascii_case(b" NOT")
-}
-
-// Whether a column is missed behind NOT.
-fn is_negated(front: &[u8], next: &[Candidate]) -> bool
-    ensures { result ≡ hints.is_negated front.now next.now }
-{
-    wants(Group::Column, next) && ends_with_not(trim(front))
 }
 
 // What is meant by OR or NOT where comparisons stand.
@@ -425,16 +309,6 @@ fn logical_hint(word: &[u8], next: &[Candidate]) -> Option<Hint>
     }
 }
 
-// What is meant by a word alone, or else by what may stand there.
-fn meant_by(word: &[u8], before: u8, next: &[Candidate]) -> Option<Hint>
-    ensures { result ≡ option_or (hints.spelled_hint word.now) (hints.placed_hint word.now before next.now) }
-{
-    if let Some(hint) = spelled_hint(word) {
-        return Some(hint);
-    }
-    placed_hint(word, before, next)
-}
-
 // What is meant by the word at the place, or none there, the byte before it, and what may stand there.
 fn word_hint(word: &[u8], before: u8, next: &[Candidate]) -> Option<Hint>
     ensures { result ≡ hints.word_hint word.now before next.now }
@@ -445,7 +319,10 @@ fn word_hint(word: &[u8], before: u8, next: &[Candidate]) -> Option<Hint>
     if wants(Group::Column, next) {
         return Some(Hint::BareColumn);
     }
-    meant_by(word, before, next)
+    if let Some(hint) = spelled_hint(word) {
+        return Some(hint);
+    }
+    placed_hint(word, before, next)
 }
 
 // Whether a word is the name of a stream, or INSERT.
@@ -460,37 +337,17 @@ fn begins_row(word: &[u8], catalog: &Catalog) -> bool
     }
 }
 
-// Whether a row begins with its integers.
-fn begins_integers(first: u8, second: u8) -> bool
-    ensures { result ≡ hints.begins_integers first second }
-{
-    first == b',' || begins_integer(first, second)
-}
-
-// What is meant where a line begins so, by its first bytes and its word.
-fn begun_hint(first: u8, second: u8, word: &[u8], catalog: &Catalog) -> Option<Hint>
-    ensures { result ≡ hints.begun_hint first second word.now catalog.now }
-{
-    if begins_row(word, catalog) {
-        Some(Hint::BareRow)
-    } else if begins_integers(first, second) {
-        Some(Hint::Streamless)
-    } else {
-        None
-    }
-}
-
 // What is meant where a line begins as a row does.
 fn row_hint(front: &[u8], rest: &[u8], catalog: &Catalog) -> Option<Hint>
     ensures { result ≡ hints.row_hint front.now rest.now catalog.now }
 {
-    if front.is_empty() {
-        begun_hint(
-            byte_at(rest, 0),
-            byte_at(rest, 1),
-            split_word(rest).0,
-            catalog,
-        )
+    let (first, second) = (byte_at(rest, 0), byte_at(rest, 1));
+    if !front.is_empty() {
+        None
+    } else if begins_row(split_word(rest).0, catalog) {
+        Some(Hint::BareRow)
+    } else if first == b',' || begins_integer(first, second) {
+        Some(Hint::Streamless)
     } else {
         None
     }
@@ -503,25 +360,18 @@ fn is_exponent(before: u8, first: u8, second: u8) -> bool
     is_digit(before) && ((first == b'e' || first == b'E') && is_digit(second))
 }
 
-// Whether a statement goes on with this word.
-#[tactic(auto, unfolding(crate::specs::Hints::goes_on_with))]
-fn goes_on_with(word: &[u8]) -> bool
-    ensures { result ≡ hints.goes_on_with word.now }
-{
-    word.eq_ignore_ascii_case(b"FROM")
-        || word.eq_ignore_ascii_case(b"WHERE")
-        || word.eq_ignore_ascii_case(b"AND")
-}
-
 // What is meant by the first word of a line.
-#[tactic(auto, unfolding(crate::specs::Hints::first_hint))]
+#[tactic(auto, unfolding(crate::specs::Hints::first_hint, crate::specs::Hints::goes_on_with))]
 fn first_hint(word: &[u8]) -> Option<Hint>
     ensures { result ≡ hints.first_hint word.now }
 {
     if word.eq_ignore_ascii_case(b"SHOW") {
         return Some(Hint::Show);
     }
-    if goes_on_with(word) {
+    if word.eq_ignore_ascii_case(b"FROM")
+        || word.eq_ignore_ascii_case(b"WHERE")
+        || word.eq_ignore_ascii_case(b"AND")
+    {
         Some(Hint::Continued)
     } else {
         None
@@ -545,22 +395,16 @@ fn second_hint(first: &[u8], word: &[u8]) -> Option<Hint>
     None
 }
 
-// What is meant by a word, where nothing or one word stands before it in the line.
-fn begun_by(front: &[u8], word: &[u8]) -> Option<Hint>
-    ensures { result ≡ hints.begun_by front.now word.now }
-{
-    if front.is_empty() {
-        first_hint(word)
-    } else {
-        second_hint(front, word)
-    }
-}
-
 // What is meant by words: the first two of a line, or else one by itself.
 fn words_hint(front: &[u8], word: &[u8], next: &[Candidate]) -> Option<Hint>
     ensures { result ≡ hints.words_hint front.now word.now next.now }
 {
-    if let Some(hint) = begun_by(front, word) {
+    let begun = if front.is_empty() {
+        first_hint(word)
+    } else {
+        second_hint(front, word)
+    };
+    if let Some(hint) = begun {
         return Some(hint);
     }
     word_hint(word, last_byte(front), next)
@@ -587,7 +431,7 @@ pub fn hint_of(front: &[u8], rest: &[u8], next: &[Candidate], catalog: &Catalog)
 {
     if is_exponent(last_byte(front), byte_at(rest, 0), byte_at(rest, 1)) {
         Some(Hint::Exponent)
-    } else if is_negated(front, next) {
+    } else if wants(Group::Column, next) && ends_with_not(trim(front)) {
         Some(Hint::Negation)
     } else {
         placed_by(front, rest, next, catalog)
@@ -608,31 +452,24 @@ fn begins_integer(first: u8, second: u8) -> bool
     is_digit(first) || ((first == b'+' || first == b'-') && is_digit(second))
 }
 
-// What stands at the front of a text that is not empty.
-fn standing_by(first: u8, second: u8, word: &[u8]) -> Standing
-    ensures { result ≡ hints.standing_by first second word.now }
+/// Returns what stands at the front of a text.
+pub fn standing_of(rest: &[u8]) -> Standing
+    ensures { result ≡ hints.standing_of rest.now }
 {
-    if is_letter(first) {
-        if key_of(word).is_some() {
+    let first = byte_at(rest, 0);
+    if rest.is_empty() {
+        Standing::End
+    } else if is_letter(first) {
+        if key_of(split_word(rest).0).is_some() {
             Standing::Reserved
         } else {
             Standing::Word
         }
-    } else if begins_integer(first, second) {
+    } else if begins_integer(first, byte_at(rest, 1)) {
         Standing::Integer
     } else if is_sign(first) {
         Standing::Sign
     } else {
         Standing::Strange
     }
-}
-
-/// Returns what stands at the front of a text.
-pub fn standing_of(rest: &[u8]) -> Standing
-    ensures { result ≡ hints.standing_of rest.now }
-{
-    if rest.is_empty() {
-        return Standing::End;
-    }
-    standing_by(byte_at(rest, 0), byte_at(rest, 1), split_word(rest).0)
 }

@@ -1,7 +1,7 @@
 //! All exact choices, stream by stream.
 ghost use Rattle.std.specs.Prelude.{◌≡◌, ◌<◌, ◌≤◌, All, ◌+◌, OnOk, IfOk, length};
 ghost use Rattle.adv_key_choices.specs.Choices.{IsKeyed};
-ghost use Rattle.adv_key_choices.specs.Extending.{AddsExact, AddsKeys, AddsExtensions, AreExactUpTo, none_chosen, with_key};
+ghost use Rattle.adv_key_choices.specs.Extending.{AddsExact, AddsExtensions, AreExactUpTo, none_chosen, with_key};
 
 use crate::choice::{Choice, KeyedQuery};
 use crate::exact::is_exact;
@@ -35,24 +35,6 @@ fn add_exact(
     }
 }
 
-// Adds the choices with a key of a stream of so many columns, where they are exact.
-fn add_keys(
-    queries: &[KeyedQuery],
-    choice: Choice,
-    stream: usize,
-    width: u8,
-    list: &mut Vec<Choice>,
-) -> Result<(), AllocError>
-    requires queries { All IsKeyed queries.now }
-    requires stream { stream < 16 }
-    ensures { OnOk result (AddsKeys queries.now choice stream width list.old.items list.new.items) }
-{
-    for column in 0..width {
-        add_exact(queries, with_key(choice, stream, Some(column)), list)?;
-    }
-    Ok(())
-}
-
 // Adds the choices with a key of a stream of so many columns or none, where they are exact.
 fn add_extensions(
     queries: &[KeyedQuery],
@@ -65,7 +47,9 @@ fn add_extensions(
     requires stream { stream < 16 }
     ensures { OnOk result (AddsExtensions queries.now choice stream width list.old.items list.new.items) }
 {
-    add_keys(queries, choice, stream, width, list)?;
+    for column in 0..width {
+        add_exact(queries, with_key(choice, stream, Some(column)), list)?;
+    }
     add_exact(queries, with_key(choice, stream, None), list)?;
     Ok(())
 }

@@ -39,11 +39,11 @@ fn are_equal_in(q: &Query, p: &Part, basis: &Basis, a: Attr, b: Attr) -> bool
     requires right { Contains (attrs_of q.now.atoms) b }
     ensures { IsTrue result ↔ IsEqual q.now p.now.signs.items (element.Attr a) (element.Attr b) }
 {
-    let mut distances = basis.room();
+    let mut distances = basis.begin();
     // For the distances that it sets: the columns that it gives are not asked for here.
     let _refs = refs(q, p, basis, &mut distances);
-    if is_at_most(q, p, &distances, a, b) {
-        is_at_most(q, p, &distances, b, a)
+    if is_at_most(q, p, distances.all(), a, b) {
+        is_at_most(q, p, distances.all(), b, a)
     } else {
         false
     }

@@ -5,11 +5,10 @@ ghost use Rattle.std.specs.Fmt.{signed_decimal};
 ghost use Rattle.io_streams.specs.Sink.{Writes};
 ghost use Rattle.adv_lines.specs.Items as item;
 
-use crate::lines::{
-    op_text, write_bounds_item, write_change_head, write_domain_item, write_numbers, write_range,
-};
+use crate::lines::{op_text, write_numbers};
 use crate::names::{Named, Names, names_of};
-use adv_templates::Written;
+use crate::templates;
+use adv_templates::{Filling, Written, write_filled};
 use io_streams::{Sink, write_all, write_pieces};
 use itoa::Buffer;
 use sem_query::{Atom, Attr, Dim, Element, Numbers};
@@ -57,14 +56,14 @@ pub fn write_element<O: Sink>(
     }
 }
 
-/// Writes a change that has a name, with the numbers of the query that has it, where they are told.
-#[tactic(auto, using(crate::proofs::Texts::writes_behind, crate::proofs::Texts::broke_off, crate::proofs::Texts::stopped))]
+/// Writes a change that has a name, with the numbers of the query that has it, where they are told: `    with COMPACT: parts 1 cells 8 answers 4 work 1`.
+#[tactic(auto, unfolding(crate::specs::Lines::change_head), using(crate::proofs::Texts::writes_behind, crate::proofs::Texts::broke_off, crate::proofs::Texts::stopped))]
 pub fn write_change<O: Sink>(out: &mut O, name: &[u8], numbers: Option<Numbers>) -> Written
     ensures { Writes result (O.seen out.old) (O.seen out.new) (item.change_line name.now numbers) }
 {
     match numbers {
         Some(numbers) => {
-            write_change_head(out, name)?;
+            write_filled(out, templates::CHANGE, &[Filling::Text(name)])?;
             write_numbers(out, numbers)
         }
         None => Ok(()),
@@ -97,13 +96,31 @@ fn remedy_text(remedy: Remedy) -> &'static [u8]
     }
 }
 
-// Two comparisons or a domain on a column.
+// Two comparisons or a domain on a column: ` AND S.a > LO AND S.a < HI`, or ` S.a IN LO..HI`.
+#[tactic(auto, unfolding(crate::specs::Lines::bounds_item, crate::specs::Lines::domain_item))]
 fn write_on<O: Sink>(out: &mut O, remedy: Remedy, attr: Attr, names: &Names<'_>) -> Written
     ensures { Writes result (O.seen out.old) (O.seen out.new) (item.remedy_on remedy names.now.catalog.now names.now.from.now attr) }
 {
+    let Named { stream, column } = names_of(attr, names);
     match remedy {
-        Remedy::Comparisons => write_bounds_item(out, names_of(attr, names)),
-        Remedy::Domains => write_domain_item(out, names_of(attr, names)),
+        Remedy::Comparisons => {
+            let pieces: [&[u8]; 9] = [
+                b" AND ",
+                stream,
+                b".",
+                column,
+                b" > LO AND ",
+                stream,
+                b".",
+                column,
+                b" < HI",
+            ];
+            write_pieces(out, &pieces)
+        }
+        Remedy::Domains => {
+            let fillings = [Filling::Text(stream), Filling::Text(column)];
+            write_filled(out, templates::DOMAIN, &fillings)
+        }
     }
 }
 
@@ -127,11 +144,20 @@ pub fn write_set<O: Sink>(out: &mut O, remedy: Remedy, set: &[Attr], names: &Nam
     write_all(out, b"\n")
 }
 
-// A column with its least and greatest value, behind a text.
-fn write_range_of<O: Sink>(out: &mut O, lead: &[u8], dim: &Dim, names: &Names<'_>) -> Written
+// A column with its least and greatest value, behind a text: `, S.b 3..39`.
+#[tactic(auto, unfolding(crate::specs::Lines::range_text))]
+fn write_range<O: Sink>(out: &mut O, lead: &'static [u8], dim: &Dim, names: &Names<'_>) -> Written
     ensures { Writes result (O.seen out.old) (O.seen out.new) (item.range_item names.now.catalog.now names.now.from.now lead.now dim.now) }
 {
-    write_range(out, lead, names_of(dim.attr, names), dim)
+    let column = names_of(dim.attr, names);
+    let fillings = [
+        Filling::Fixed(lead),
+        Filling::Text(column.stream),
+        Filling::Text(column.column),
+        Filling::Integer(dim.lo),
+        Filling::Integer(dim.hi),
+    ];
+    write_filled(out, templates::RANGE, &fillings)
 }
 
 // The ranges behind the first.
@@ -139,7 +165,7 @@ fn write_more_ranges<O: Sink>(out: &mut O, dims: &[Dim], names: &Names<'_>) -> W
     ensures { Writes result (O.seen out.old) (O.seen out.new) (flat_map (item.next_range names.now.catalog.now names.now.from.now) dims.now) }
 {
     for dim in dims {
-        write_range_of(out, b", ", dim, names)?;
+        write_range(out, b", ", dim, names)?;
     }
     Ok(())
 }
@@ -151,7 +177,7 @@ pub fn write_ranges<O: Sink>(out: &mut O, dims: &[Dim], names: &Names<'_>) -> Wr
     match dims {
         [] => Ok(()),
         [first, others @ ..] => {
-            write_range_of(out, b" by ", first, names)?;
+            write_range(out, b" by ", first, names)?;
             write_more_ranges(out, others, names)
         }
     }

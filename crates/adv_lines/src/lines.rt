@@ -8,8 +8,8 @@ ghost use Rattle.adv_lines.specs.Lines as line;
 use crate::names::Named;
 use crate::templates;
 use adv_templates::{Filling, Written, write_filled};
-use io_streams::{Sink, write_all, write_pieces};
-use sem_query::{Condition, Dim, Numbers, Op, Which};
+use io_streams::{Sink, write_all};
+use sem_query::{Condition, Numbers, Op, Which};
 use sql_replies::condition_text;
 use sql_text::Name;
 
@@ -174,43 +174,6 @@ pub fn op_text(op: Op) -> &'static [u8]
     }
 }
 
-/// Writes a change that has a name: `    with COMPACT`.
-#[tactic(auto, unfolding(crate::specs::Lines::change_head))]
-pub fn write_change_head<O: Sink>(out: &mut O, change: &[u8]) -> Written
-    ensures { Writes result (O.seen out.old) (O.seen out.new) (line.change_head change.now) }
-{
-    write_filled(out, templates::CHANGE, &[Filling::Text(change)])
-}
-
-/// Writes a column between two integers: ` AND S.a > LO AND S.a < HI`.
-#[tactic(auto, unfolding(crate::specs::Lines::bounds_item))]
-pub fn write_bounds_item<O: Sink>(out: &mut O, column: Named<'_>) -> Written
-    ensures { Writes result (O.seen out.old) (O.seen out.new) (line.bounds_item (record { stream = column.entry.stream.now; column = column.entry.column.now })) }
-{
-    let (stream, name) = (column.stream, column.column);
-    let pieces: [&[u8]; 9] = [
-        b" AND ",
-        stream,
-        b".",
-        name,
-        b" > LO AND ",
-        stream,
-        b".",
-        name,
-        b" < HI",
-    ];
-    write_pieces(out, &pieces)
-}
-
-/// Writes a column in a domain: ` S.a IN LO..HI`.
-#[tactic(auto, unfolding(crate::specs::Lines::domain_item))]
-pub fn write_domain_item<O: Sink>(out: &mut O, column: Named<'_>) -> Written
-    ensures { Writes result (O.seen out.old) (O.seen out.new) (line.domain_item (record { stream = column.entry.stream.now; column = column.entry.column.now })) }
-{
-    let fillings = [Filling::Text(column.stream), Filling::Text(column.column)];
-    write_filled(out, templates::DOMAIN, &fillings)
-}
-
 /// Writes that a part has the elements that follow: `  part 23 has`.
 #[tactic(auto, unfolding(crate::specs::Lines::part_head))]
 pub fn write_part<O: Sink>(out: &mut O, part: u32) -> Written
@@ -226,24 +189,13 @@ fn cells_text(cells: u64) -> &'static [u8]
     if cells == 1 { b" cell: " } else { b" cells: " }
 }
 
-// Whether all cells of a part are of one stream: not where there are so many that 64 bits do not tell.
-fn is_alone(cells: u64, kept: u64) -> bool
-    ensures { result ≡ line.is_alone cells kept }
-{
-    if is_capped(cells) {
-        false
-    } else {
-        cells == kept
-    }
-}
-
 /// Writes how many cells a part keeps, and of which stream so many of them are: `  part 5 keeps 1369 cells: Temp`, or
 /// `  part 5 keeps 2738 cells, 1369 of them of Temp`.
 #[tactic(auto, unfolding(crate::specs::Lines::kept_head))]
 pub fn write_kept<O: Sink>(out: &mut O, part: u32, cells: u64, kept: u64, stream: &[u8]) -> Written
     ensures { Writes result (O.seen out.old) (O.seen out.new) (line.kept_head part cells kept stream.now) }
 {
-    if is_alone(cells, kept) {
+    if !is_capped(cells) && cells == kept {
         let fillings = [
             Filling::Count(part),
             Filling::Number(cells),
@@ -261,26 +213,6 @@ pub fn write_kept<O: Sink>(out: &mut O, part: u32, cells: u64, kept: u64, stream
         Filling::Text(stream),
     ];
     write_filled(out, templates::MOST_KEPT, &fillings)
-}
-
-/// Writes a column with its least and greatest value behind a text: `, S.b 3..39`.
-#[tactic(auto, unfolding(crate::specs::Lines::range_text))]
-pub fn write_range<'a, O: Sink>(
-    out: &mut O,
-    lead: &'a [u8],
-    column: Named<'a>,
-    dim: &Dim,
-) -> Written
-    ensures { Writes result (O.seen out.old) (O.seen out.new) (line.range_text lead.now (record { stream = column.entry.stream.now; column = column.entry.column.now }) dim.now.lo dim.now.hi) }
-{
-    let fillings = [
-        Filling::Text(lead),
-        Filling::Text(column.stream),
-        Filling::Text(column.column),
-        Filling::Integer(dim.lo),
-        Filling::Integer(dim.hi),
-    ];
-    write_filled(out, templates::RANGE, &fillings)
 }
 
 /// Writes a text where it is due.

@@ -25,10 +25,7 @@ pub struct Named<'a> {
 fn number_at(from: &[u8], place: u8) -> u8
     ensures { result ≡ slice_index from.now place }
 {
-    match from.get(usize::from(place)) {
-        Some(number) => *number,
-        None => 0,
-    }
+    from.get(usize::from(place)).copied().unwrap_or(0)
 }
 
 // The name of the stream of a number, and nothing where there is none.
@@ -46,12 +43,11 @@ fn stream_name(catalog: &Catalog, number: u8) -> &[u8]
 fn column_name(catalog: &Catalog, number: u8, column: u8) -> &[u8]
     ensures { result.now ≡ column_at (shape_at catalog.now number).columns column }
 {
-    if number < catalog.len() {
-        if column < catalog.width(number) {
-            return catalog.column_name(number, column).bytes();
-        }
+    if number < catalog.len() && column < catalog.width(number) {
+        catalog.column_name(number, column).bytes()
+    } else {
+        b""
     }
-    b""
 }
 
 /// Returns the name of the stream at a place of FROM, and nothing where there is none.

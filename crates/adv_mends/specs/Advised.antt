@@ -15,8 +15,8 @@ use Rattle.adv_mends.specs.declared.comparing.Cheaper.{Cheaper}
 use Rattle.adv_mends.specs.declared.advising.QueryAdvice.{QueryAdvice}
 use Rattle.adv_mends.specs.Mended.{Mends}
 use Rattle.adv_mends.specs.Sets.{AreLeastSets}
-use Rattle.adv_mends.specs.Numbered.{IsJudgement, AreNumbersWith}
-use Rattle.adv_mends.specs.Comparisons.{comparisons_of, fewer, AreBest}
+use Rattle.adv_mends.specs.Numbered.{IsJudgement}
+use Rattle.adv_mends.specs.Comparisons.{comparisons_of, AreFewer, AreBest}
 use Rattle.adv_mends.specs.Meeting.{NeverMeets}
 use Rattle.adv_mends.specs.Violating.{AreChainsFor}
 use Rattle.adv_mends.specs.Dearest.{AreDearestFor}
@@ -53,7 +53,7 @@ pub record AreSetsFor (kind : ChangeKind) (q : QueryValue) (own : Judgement) (se
 -- the numbers of a query with a change that it has not, where it is accepted with it and has fewer cells than it comes to
 pub record AreBetterNumbers (shared : Bool) (q : QueryValue) (own : Judgement) (mend : Mend) (has : Bool) (numbers : Option Numbers) : Type 0 where
   pub before : IsTrue has → numbers ≡ None
-  pub found : IsFalse has → (all : Option Numbers) × AreNumbersWith shared q mend all × (numbers ≡ fewer own all)
+  pub found : IsFalse has → AreFewer shared q own mend numbers
 
 -- the best comparisons, where the query is refused or has more than one part and is not compact, and else none
 pub record AreComparisonsFor (shared : Bool) (q : QueryValue) (own : Judgement) (list : List Cheaper) (cut_short : Bool) : Type 0 where

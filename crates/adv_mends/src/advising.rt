@@ -3,10 +3,11 @@ ghost use Rattle.std.specs.Prelude.{◌≡◌, ◌↔◌, IsTrue, IsFalse, IfOk}
 ghost use Rattle.adv_mends.specs.declared.mend.Mend.TheVariants as changes;
 ghost use Rattle.adv_mends.specs.Mended.{Mends};
 ghost use Rattle.adv_mends.specs.Advised.{breaks_condition, has_cost, passes_limit, is_lifted, AreSetsFor, AreBetterNumbers, AreComparisonsFor, AreNarrowingsFor, IsAdvice};
+ghost use Rattle.adv_mends.specs.Sets.{IsMendOf};
 
-use crate::comparing::{BestComparisons, Cheaper, best_comparisons, fewer};
+use crate::comparing::{BestComparisons, Cheaper, best_comparisons, tried};
 use crate::dearest::{DearPart, dearest_for};
-use crate::judging::{Judgement, judge, numbers_with};
+use crate::judging::{Judgement, judge};
 use crate::meeting::never_meets;
 use crate::mend::{ChangeKind, Mend};
 use crate::narrowing::narrowings;
@@ -56,13 +57,7 @@ pub struct QueryAdvice {
 fn breaks_condition(judgement: Judgement) -> bool
     ensures { result ≡ breaks_condition judgement }
 {
-    match judgement {
-        Judgement::Violation { .. } => true,
-        Judgement::Filter
-        | Judgement::Accepted(_)
-        | Judgement::Above { .. }
-        | Judgement::ManyParts => false,
-    }
+    matches!(judgement, Judgement::Violation { .. })
 }
 
 fn has_cost(judgement: Judgement) -> bool
@@ -79,10 +74,7 @@ fn has_cost(judgement: Judgement) -> bool
 fn passes_limit(judgement: Judgement) -> bool
     ensures { result ≡ passes_limit judgement }
 {
-    match judgement {
-        Judgement::Above { .. } | Judgement::ManyParts => true,
-        Judgement::Filter | Judgement::Accepted(_) | Judgement::Violation { .. } => false,
-    }
+    matches!(judgement, Judgement::Above { .. } | Judgement::ManyParts)
 }
 
 // Whether a change is told with which the query is accepted.
@@ -99,10 +91,7 @@ fn is_lifted(cheaper: &[Cheaper], compact: Option<Numbers>, shared: Option<Numbe
 fn distinct_mends(alloc: Global, query: &Query, own: Judgement) -> Result<bool, AllocError>
     ensures { IfOk result (λ is. IsTrue is ↔ (IsTrue (breaks_condition own) × IsFalse query.now.distinct × Mends changes.Distinct query.now)) }
 {
-    if query.distinct() {
-        return Ok(false);
-    }
-    if !breaks_condition(own) {
+    if query.distinct() || !breaks_condition(own) {
         return Ok(false);
     }
     mends(alloc, query, &Mend::Distinct)
@@ -127,40 +116,22 @@ fn sets_for(
     }
 }
 
-// The numbers of the query with COMPACT, where it has it not and has fewer cells with it.
-fn compact_numbers(
+// The numbers of the query with a change, where it has it not and has fewer cells with it.
+fn better_numbers(
     alloc: Global,
     query: &Query,
     shared: bool,
     own: Judgement,
+    mend: &Mend,
+    has: bool,
 ) -> Result<Option<Numbers>, AllocError>
-    ensures { IfOk result (AreBetterNumbers shared query.now own changes.Compact query.now.compact) }
+    requires { IsMendOf query.now mend.now }
+    ensures { IfOk result (AreBetterNumbers shared query.now own mend.now has) }
 {
-    if query.compact() {
+    if has {
         return Ok(None);
     }
-    match numbers_with(alloc, query, shared, &Mend::Compact) {
-        Ok(numbers) => Ok(fewer(own, numbers)),
-        Err(fault) => Err(fault),
-    }
-}
-
-// The numbers of the query with shared cells, where it has fewer.
-fn shared_numbers(
-    alloc: Global,
-    query: &Query,
-    shared: bool,
-    own: Judgement,
-) -> Result<Option<Numbers>, AllocError>
-    ensures { IfOk result (AreBetterNumbers shared query.now own changes.Shared shared) }
-{
-    if shared {
-        return Ok(None);
-    }
-    match numbers_with(alloc, query, shared, &Mend::Shared) {
-        Ok(numbers) => Ok(fewer(own, numbers)),
-        Err(fault) => Err(fault),
-    }
+    tried(alloc, query, shared, own, mend)
 }
 
 // The best comparisons, where the query is refused or has more than one part and is not compact.
@@ -191,10 +162,7 @@ fn narrowings_for(
 ) -> Result<Vec<Cheaper>, AllocError>
     ensures { IfOk result (λ list. AreNarrowingsFor shared query.now own lifted list.items) }
 {
-    if lifted {
-        return Ok(Vec::new(alloc));
-    }
-    if !passes_limit(own) {
+    if lifted || !passes_limit(own) {
         return Ok(Vec::new(alloc));
     }
     narrowings(alloc, query, shared, own)
@@ -214,8 +182,15 @@ pub fn advise(alloc: Global, query: &Query, shared: bool) -> Result<QueryAdvice,
     let distinct = distinct_mends(alloc, query, judgement)?;
     let bounds = sets_for(alloc, query, judgement, ChangeKind::Bounds)?;
     let domains = sets_for(alloc, query, judgement, ChangeKind::Domains)?;
-    let compact = compact_numbers(alloc, query, shared, judgement)?;
-    let fewer = shared_numbers(alloc, query, shared, judgement)?;
+    let compact = better_numbers(
+        alloc,
+        query,
+        shared,
+        judgement,
+        &Mend::Compact,
+        query.compact(),
+    )?;
+    let fewer = better_numbers(alloc, query, shared, judgement, &Mend::Shared, shared)?;
     let BestComparisons { best, cut_short } = comparisons_for(alloc, query, shared, judgement)?;
     let lifted = is_lifted(best.as_slice(), compact, fewer);
     let narrowed = narrowings_for(alloc, query, shared, judgement, lifted)?;

@@ -3,7 +3,7 @@ ghost use Rattle.std.specs.Prelude.{◌≡◌, IsFalse, Some, IfOk};
 ghost use Rattle.sem_query.specs.Query.{is_filter};
 ghost use Rattle.sem_forms.specs.Forms.{HasWholeForm, IsWholeFormOr};
 ghost use Rattle.adv_mends.specs.Sets.{IsMendOf};
-ghost use Rattle.adv_mends.specs.Numbered.{IsJudgement, IsJudgementWith, AreNumbersWith, accepted, shares};
+ghost use Rattle.adv_mends.specs.Numbered.{IsJudgement, AreNumbersWith, accepted, shares};
 
 use crate::mend::Mend;
 use crate::writing::written;
@@ -93,47 +93,17 @@ fn shares(mend: &Mend, shared: bool) -> bool
 {
     match mend {
         Mend::Shared => true,
-        Mend::Distinct
-        | Mend::Domains(_, _)
-        | Mend::Bounds(_, _)
-        | Mend::Comparison(_)
-        | Mend::Compact => shared,
-    }
-}
-
-/// Returns what the query comes to with a change, with shared cells or without, or none where it would pass a limit of a statement. `AllocError` where the list
-/// of parts, or the plan, finds no memory.
-pub fn judge_with(
-    alloc: Global,
-    query: &Query,
-    shared: bool,
-    mend: &Mend,
-) -> Result<Option<Judgement>, AllocError>
-    requires { IsMendOf query.now mend.now }
-    ensures { IfOk result (IsJudgementWith shared query.now mend.now) }
-{
-    match written(query, mend) {
-        Some(other) => match judge(alloc, &other, shares(mend, shared)) {
-            Ok(judgement) => Ok(Some(judgement)),
-            Err(fault) => Err(fault),
-        },
-        None => Ok(None),
+        _ => shared,
     }
 }
 
 // The numbers of a judgement that accepts.
-fn accepted(judgement: Option<Judgement>) -> Option<Numbers>
-    ensures { result ≡ accepted judgement }
+fn accepted(judgement: Judgement) -> Option<Numbers>
+    ensures { result ≡ accepted (Some judgement) }
 {
     match judgement {
-        Some(Judgement::Accepted(numbers)) => Some(numbers),
-        Some(
-            Judgement::Filter
-            | Judgement::Above { .. }
-            | Judgement::Violation { .. }
-            | Judgement::ManyParts,
-        )
-        | None => None,
+        Judgement::Accepted(numbers) => Some(numbers),
+        _ => None,
     }
 }
 
@@ -148,8 +118,11 @@ pub fn numbers_with(
     requires { IsMendOf query.now mend.now }
     ensures { IfOk result (AreNumbersWith shared query.now mend.now) }
 {
-    match judge_with(alloc, query, shared, mend) {
-        Ok(judgement) => Ok(accepted(judgement)),
-        Err(fault) => Err(fault),
+    match written(query, mend) {
+        Some(other) => match judge(alloc, &other, shares(mend, shared)) {
+            Ok(judgement) => Ok(accepted(judgement)),
+            Err(fault) => Err(fault),
+        },
+        None => Ok(None),
     }
 }

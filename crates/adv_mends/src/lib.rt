@@ -30,7 +30,7 @@ pub use advising::{QueryAdvice, advise};
 pub use columns::ColumnSet;
 pub use comparing::{BestComparisons, Cheaper, best_comparisons};
 pub use dearest::{DearPart, dearest_for};
-pub use judging::{Judgement, judge, judge_with, numbers_with};
+pub use judging::{Judgement, judge, numbers_with};
 pub use meeting::{meets, never_meets, stands};
 pub use mend::{ChangeKind, Ends, Mend};
 pub use narrowing::narrowings;

@@ -31,19 +31,6 @@ fn has_part(alloc: Global, query: &Query) -> Result<bool, AllocError>
     }
 }
 
-// Whether the parts of a query that is not compact break no condition.
-fn parts_meet(query: &Query, parts: &[Part]) -> bool
-    requires plain { IsFalse query.now.compact }
-    requires parts { AreParts query.now (sign_lists parts.now) }
-    requires few { length parts.now ≤ 4096 }
-    ensures { IsTrue result ↔ Meets query.now }
-{
-    match decide(query, parts) {
-        Decision::Bounded => true,
-        Decision::Violation { .. } => false,
-    }
-}
-
 // How many parts a query has that is not compact, no filter, and has these, where they break no condition.
 fn count_plain(query: &Query, parts: &[Part]) -> Option<usize>
     requires plain { IsFalse query.now.compact }
@@ -51,10 +38,9 @@ fn count_plain(query: &Query, parts: &[Part]) -> Option<usize>
     requires few { length parts.now ≤ 4096 }
     ensures { MeetsWith query.now result }
 {
-    if parts_meet(query, parts) {
-        Some(parts.len())
-    } else {
-        None
+    match decide(query, parts) {
+        Decision::Bounded => Some(parts.len()),
+        Decision::Violation { .. } => None,
     }
 }
 
@@ -116,10 +102,9 @@ pub fn meets(alloc: Global, query: &Query) -> Result<bool, AllocError>
     if query.is_filter() {
         return Ok(true);
     }
-    match parts_met(alloc, query) {
-        Ok(Some(_parts)) => Ok(true),
-        Ok(None) => Ok(false),
-        Err(fault) => Err(fault),
+    match parts_met(alloc, query)? {
+        Some(_parts) => Ok(true),
+        None => Ok(false),
     }
 }
 
@@ -131,10 +116,9 @@ pub fn stands(alloc: Global, query: &Query) -> Result<bool, AllocError>
     if query.is_filter() {
         return has_part(alloc, query);
     }
-    match parts_met(alloc, query) {
-        Ok(Some(parts)) => Ok(0 < parts),
-        Ok(None) => Ok(false),
-        Err(fault) => Err(fault),
+    match parts_met(alloc, query)? {
+        Some(parts) => Ok(0 < parts),
+        None => Ok(false),
     }
 }
 
@@ -142,8 +126,5 @@ pub fn stands(alloc: Global, query: &Query) -> Result<bool, AllocError>
 pub fn never_meets(alloc: Global, query: &Query) -> Result<bool, AllocError>
     ensures { IfOk result (λ never. IsTrue never ↔ NeverMeets query.now) }
 {
-    match has_part(alloc, query) {
-        Ok(has) => Ok(!has),
-        Err(fault) => Err(fault),
-    }
+    Ok(!has_part(alloc, query)?)
 }

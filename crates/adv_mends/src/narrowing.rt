@@ -1,6 +1,6 @@
 //! Narrower ranges of single columns that lift a limit.
-ghost use Rattle.std.specs.Prelude.{◌≡◌, ◌+◌, ◌≤◌, ◌++◌, ◌+ℤ◌, ◌≤ℤ◌, neg_ℤ, pos, length, All, Contains, OnOk, IfOk};
-ghost use Rattle.sem_query.specs.Query.{attrs_of, IsShort};
+ghost use Rattle.std.specs.Prelude.{◌≡◌, if◌then◌else◌, ◌+◌, ◌≤◌, ◌++◌, ◌+ℤ◌, ◌≤ℤ◌, neg_ℤ, pos, length, All, Contains, OnOk, IfOk};
+ghost use Rattle.sem_query.specs.Query.{attr_eq, attrs_of, IsShort};
 ghost use Rattle.sem_query.specs.declared.atom.Op.TheVariants as op;
 ghost use Rattle.adv_mends.specs.Mended.{compared, IsBound};
 ghost use Rattle.adv_mends.specs.Narrowed.{turned, from_on, up_to, cut, cut_by, domain_or, range_of, is_enclosed, halvings_from, halvings_of, IsFirst, PutsFirst, AreNarrowings, AreShortSides};
@@ -8,6 +8,7 @@ ghost use Rattle.adv_mends.specs.Narrowed.{turned, from_on, up_to, cut, cut_by, 
 use crate::comparing::{Cheaper, put, tried};
 use crate::ends::{GREATEST, widest};
 use crate::judging::Judgement;
+use crate::mend::Mend;
 use crate::writing::compared;
 use arrayvec::ArrayVec;
 use sem_query::{Atom, Attr, Domain, Element, Op, Query, is_same};
@@ -37,11 +38,7 @@ fn from_on(range: Domain, least: i64) -> Domain
     if least < range.lo {
         range
     } else {
-        Domain {
-            attr: range.attr,
-            lo: least,
-            hi: range.hi,
-        }
+        Domain { lo: least, ..range }
     }
 }
 
@@ -53,18 +50,20 @@ fn up_to(range: Domain, greatest: i64) -> Domain
         range
     } else {
         Domain {
-            attr: range.attr,
-            lo: range.lo,
             hi: greatest,
+            ..range
         }
     }
 }
 
-// What a comparison with an integer leaves of a range.
-fn cut(range: Domain, op: Op, value: i64) -> Domain
+// What a comparison of a column with an integer leaves of a range.
+fn cut(range: Domain, column: Attr, op: Op, value: i64) -> Domain
     requires { IsShort value }
-    ensures { result ≡ cut op value range }
+    ensures { result ≡ if attr_eq column range.attr then cut op value range else range }
 {
+    if !is_same(column, range.attr) {
+        return range;
+    }
     match op {
         Op::Lt => up_to(range, value - 1),
         Op::Le => up_to(range, value),
@@ -81,19 +80,9 @@ fn cut_by(range: Domain, atom: Atom) -> Domain
     ensures { result ≡ cut_by range atom }
 {
     match (atom.left, atom.right) {
-        (Element::Attr(column), Element::Const(value)) => {
-            if is_same(column, range.attr) {
-                cut(range, atom.op, value)
-            } else {
-                range
-            }
-        }
+        (Element::Attr(column), Element::Const(value)) => cut(range, column, atom.op, value),
         (Element::Const(value), Element::Attr(column)) => {
-            if is_same(column, range.attr) {
-                cut(range, turned(atom.op), value)
-            } else {
-                range
-            }
+            cut(range, column, turned(atom.op), value)
         }
         (Element::Attr(_), Element::Attr(_)) | (Element::Const(_), Element::Const(_)) => range,
     }
@@ -186,7 +175,7 @@ fn first_of(
 {
     match atoms {
         [] => Ok(None),
-        [atom, others @ ..] => match tried(alloc, query, shared, own, *atom)? {
+        [atom, others @ ..] => match tried(alloc, query, shared, own, &Mend::Comparison(*atom))? {
             Some(numbers) => Ok(Some(Cheaper {
                 atom: *atom,
                 numbers,

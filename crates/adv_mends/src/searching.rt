@@ -1,7 +1,7 @@
 //! The search for least sets of columns.
 ghost use Rattle.std.specs.Prelude.{◌≡◌, ◌↔◌, ◌<◌, ◌≤◌, length, min, IsTrue, OnOk, IfOk};
-ghost use Rattle.adv_mends.specs.Mended.{AreEnds, on, widest_ends, Mends};
-ghost use Rattle.adv_mends.specs.Ends.{span, below, above, StaysMet, MendsBy};
+ghost use Rattle.adv_mends.specs.Mended.{on};
+ghost use Rattle.adv_mends.specs.Ends.{MendsBy};
 ghost use Rattle.adv_mends.specs.Sublists.{IsSublist};
 ghost use Rattle.adv_mends.specs.Sets.{HasWithin, AreLeastAmong, AreLeastSets, open_columns, sets_of};
 ghost use Rattle.adv_mends.specs.SetSearch.{behind, Looks};
@@ -70,52 +70,8 @@ fn on(kind: ChangeKind, ends: Ends, set: &ColumnSet) -> Mend
     }
 }
 
-// Whether no condition refuses the query where the columns of a set are between two ends.
-fn meets_between(
-    alloc: Global,
-    query: &Query,
-    kind: ChangeKind,
-    ends: Ends,
-    set: &ColumnSet,
-) -> Result<bool, AllocError>
-    requires columns { IsSublist set.now (open_columns query.now) }
-    requires ends { AreEnds ends }
-    ensures { IfOk result (λ is. IsTrue is ↔ StaysMet (on kind ends set.now) query.now) }
-{
-    stays_met(alloc, query, &on(kind, ends, set))
-}
-
-// Whether no condition refuses the query where they are between two ends close together, below all integers that it names and above them.
-fn meets_close(
-    alloc: Global,
-    query: &Query,
-    kind: ChangeKind,
-    set: &ColumnSet,
-) -> Result<bool, AllocError>
-    requires { IsSublist set.now (open_columns query.now) }
-    ensures { IfOk result (λ is. IsTrue is ↔ (StaysMet (on kind (below (span query.now)) set.now) query.now × StaysMet (on kind (above (span query.now)) set.now) query.now)) }
-{
-    let span = span(query);
-    if !meets_between(alloc, query, kind, below(&span), set)? {
-        return Ok(false);
-    }
-    meets_between(alloc, query, kind, above(&span), set)
-}
-
-// Whether the columns of a set between the widest ends mend the query.
-fn mends_widest(
-    alloc: Global,
-    query: &Query,
-    kind: ChangeKind,
-    set: &ColumnSet,
-) -> Result<bool, AllocError>
-    requires { IsSublist set.now (open_columns query.now) }
-    ensures { IfOk result (λ is. IsTrue is ↔ Mends (on kind widest_ends set.now) query.now) }
-{
-    mends(alloc, query, &on(kind, widest_ends(), set))
-}
-
-// Whether bounds or domains on the columns of a set mend the query, with each pair of ends that is tried.
+// Whether bounds or domains on the columns of a set mend the query with the widest ends, and no condition refuses it with the two pairs close together, below all
+// integers that it names and above them.
 fn set_mends(
     alloc: Global,
     query: &Query,
@@ -125,10 +81,14 @@ fn set_mends(
     requires { IsSublist set.now (open_columns query.now) }
     ensures { IfOk result (λ is. IsTrue is ↔ MendsBy kind set.now query.now) }
 {
-    if !mends_widest(alloc, query, kind, set)? {
+    if !mends(alloc, query, &on(kind, widest_ends(), set))? {
         return Ok(false);
     }
-    meets_close(alloc, query, kind, set)
+    let span = span(query);
+    if !stays_met(alloc, query, &on(kind, below(&span), set))? {
+        return Ok(false);
+    }
+    stays_met(alloc, query, &on(kind, above(&span), set))
 }
 
 // Adds a set to those that were found, where it contains none of them and mends the query.

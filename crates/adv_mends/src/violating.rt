@@ -38,9 +38,6 @@ pub fn chains_for(alloc: Global, query: &Query, own: Judgement) -> Result<Vec<Ch
             Err(SplitError::TooManyParts) => unreachable!(),
             Err(SplitError::Memory) => Err(AllocError),
         },
-        Judgement::Filter
-        | Judgement::Accepted(_)
-        | Judgement::Above { .. }
-        | Judgement::ManyParts => Ok(Vec::new(alloc)),
+        _ => Ok(Vec::new(alloc)),
     }
 }

@@ -163,25 +163,6 @@ fn with_atoms(query: &Query, more: &[Atom]) -> Option<Query>
     ))
 }
 
-// The query with two comparisons of each of some columns.
-fn with_bounds(query: &Query, columns: &[Attr], ends: Ends) -> Option<Query>
-    requires few { length columns.now ≤ 3 }
-    requires columns { IsSublist columns.now (open_columns query.now) }
-    requires ends { AreEnds ends }
-    ensures { IsWritten (changes.Bounds columns.now ends) query.now result }
-{
-    let bounds = bounds_on(columns, ends);
-    with_atoms(query, bounds.as_slice())
-}
-
-// The query with one comparison more.
-fn with_comparison(query: &Query, atom: Atom) -> Option<Query>
-    requires { IsBound query.now atom }
-    ensures { IsWritten (changes.Comparison atom) query.now result }
-{
-    with_atoms(query, &[atom])
-}
-
 /// Returns the query with a change, or none where it would pass a limit of a statement.
 pub fn written(query: &Query, mend: &Mend) -> Option<Query>
     requires { IsMendOf query.now mend.now }
@@ -190,8 +171,8 @@ pub fn written(query: &Query, mend: &Mend) -> Option<Query>
     match mend {
         Mend::Distinct => Some(like(query, true, query.domains(), query.compact())),
         Mend::Domains(set, ends) => with_domains(query, set.columns(), *ends),
-        Mend::Bounds(set, ends) => with_bounds(query, set.columns(), *ends),
-        Mend::Comparison(atom) => with_comparison(query, *atom),
+        Mend::Bounds(set, ends) => with_atoms(query, bounds_on(set.columns(), *ends).as_slice()),
+        Mend::Comparison(atom) => with_atoms(query, &[*atom]),
         Mend::Compact => Some(like(query, query.distinct(), query.domains(), true)),
         Mend::Shared => Some(like(query, query.distinct(), query.domains(), query.compact())),
     }

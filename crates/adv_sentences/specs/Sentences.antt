@@ -25,18 +25,18 @@ use Rattle.adv_hints.specs.Hints.{is_empty, hint_of, standing_of}
 
 -- a limit that is passed
 abbrev pub limit_template : What → List ℕ
-limit_template limits.Name = texts.LIMIT_NAME.now
-limit_template limits.Columns = texts.LIMIT_COLUMNS.now
-limit_template limits.Select = texts.LIMIT_SELECT.now
-limit_template limits.From = texts.LIMIT_FROM.now
-limit_template limits.Atoms = texts.LIMIT_ATOMS.now
-limit_template limits.Soft = texts.LIMIT_SOFT.now
-limit_template limits.Attrs = texts.LIMIT_ATTRS.now
-limit_template limits.Value = texts.LIMIT_VALUE.now
-limit_template limits.Consts = texts.LIMIT_CONSTS.now
-limit_template limits.Domain = texts.LIMIT_DOMAIN.now
-limit_template limits.Tuple = texts.LIMIT_TUPLE.now
-limit_template limits.Streams = texts.LIMIT_STREAMS.now
+limit_template limits.Name = codes "a name has at most 24 bytes, and this has "
+limit_template limits.Columns = codes "a stream has at most 8 columns, and this has "
+limit_template limits.Select = codes "a query selects at most 8 columns, and this selects "
+limit_template limits.From = codes "FROM names at most 4 streams, and here it names "
+limit_template limits.Atoms = codes "a query has at most 16 comparisons, and this has "
+limit_template limits.Soft = codes "a query has at most 8 comparisons with <=, >= or <>, and this has _: write a < 6 for a <= 5, and a > 4 for a >= 5"
+limit_template limits.Attrs = codes "the comparisons name at most 12 different columns, and here they name "
+limit_template limits.Value = codes "an integer has at most 15 digits, and one of a line of a checkpoint or a lock at most 64 bits; one here has more"
+limit_template limits.Consts = codes "the comparisons name at most 6 different integers, and here they name "
+limit_template limits.Domain = codes "the first integer of a domain is at most the second, and here one is greater: exchange the two"
+limit_template limits.Tuple = codes "a tuple has at most 8 integers, and this has "
+limit_template limits.Streams = codes "a lock names at most 16 streams, and this names "
 
 -- a number, where there is one
 abbrev pub number_text : Option ℕ → List ℕ
@@ -49,44 +49,44 @@ limit_text what found = filled (limit_template what) (number_text found ∷ [])
 
 -- what is meant
 abbrev pub hint_text : Hint → List ℕ
-hint_text hints.ByteOrderMark = texts.HINT_BOM.now
-hint_text hints.Quoted = texts.HINT_QUOTED.now
-hint_text hints.Unequal = texts.HINT_UNEQUAL.now
-hint_text hints.Star = texts.HINT_STAR.now
-hint_text hints.AtMost = texts.HINT_AT_MOST.now
-hint_text hints.AtLeast = texts.HINT_AT_LEAST.now
-hint_text hints.Equal = texts.HINT_EQUAL.now
-hint_text hints.Decimal = texts.HINT_DECIMAL.now
-hint_text hints.Or = texts.HINT_OR.now
-hint_text hints.BareColumn = texts.HINT_BARE_COLUMN.now
-hint_text hints.ReservedName = texts.HINT_RESERVED.now
-hint_text hints.BareRow = texts.HINT_BARE_ROW.now
-hint_text hints.Comment = texts.HINT_COMMENT.now
-hint_text hints.Interval = texts.HINT_INTERVAL.now
-hint_text hints.Arithmetic = texts.HINT_ARITHMETIC.now
-hint_text hints.Hyphen = texts.HINT_HYPHEN.now
-hint_text hints.CommaAtEnd = texts.HINT_COMMA_AT_END.now
-hint_text hints.Function = texts.HINT_FUNCTION.now
-hint_text hints.Parenthesis = texts.HINT_PARENTHESIS.now
-hint_text hints.Negation = texts.HINT_NEGATION.now
-hint_text hints.Between = texts.HINT_BETWEEN.now
-hint_text hints.Pattern = texts.HINT_PATTERN.now
-hint_text hints.Null = texts.HINT_NULL.now
-hint_text hints.Order = texts.HINT_ORDER.now
-hint_text hints.Join = texts.HINT_JOIN.now
-hint_text hints.Clause = texts.HINT_CLAUSE.now
-hint_text hints.Choice = texts.HINT_CHOICE.now
-hint_text hints.BareQuery = texts.HINT_BARE_QUERY.now
-hint_text hints.Alias = texts.HINT_ALIAS.now
-hint_text hints.Typed = texts.HINT_TYPE.now
-hint_text hints.Chained = texts.HINT_CHAINED.now
-hint_text hints.Streamless = texts.HINT_STREAMLESS.now
-hint_text hints.Exponent = texts.HINT_EXPONENT.now
-hint_text hints.DropStream = texts.HINT_DROP_STREAM.now
-hint_text hints.ExplainQuery = texts.HINT_EXPLAIN_QUERY.now
-hint_text hints.Replace = texts.HINT_REPLACE.now
-hint_text hints.Show = texts.HINT_SHOW.now
-hint_text hints.Continued = texts.HINT_CONTINUED.now
+hint_text hints.ByteOrderMark = codes "a byte order mark stands here, which many editors do not show: save the file without one"
+hint_text hints.Quoted = codes "nothing is quoted: a name and an integer stand as they are; docs/DATA.md has a filter, tools/filters/names, that makes integers of texts"
+hint_text hints.Unequal = codes "unequal is written <>"
+hint_text hints.Star = codes "* stands for no columns: name each that is selected"
+hint_text hints.AtMost = codes "at most is written <="
+hint_text hints.AtLeast = codes "at least is written >="
+hint_text hints.Equal = codes "equal is written = once"
+hint_text hints.Decimal = codes "an integer has no point: count in smaller units, as 125 tenths for 12.5"
+hint_text hints.Or = codes "comparisons are joined by AND alone: create a query for each side of OR"
+hint_text hints.BareColumn = codes "a column is written with its stream, as "
+hint_text hints.ReservedName = codes "this word is reserved, and no name: take another, as one with _ behind it"
+hint_text hints.BareRow = codes "a row has commas between its stream and its integers, as Stream,1,2"
+hint_text hints.Comment = codes "a comment stands on a line of its own, which begins with --"
+hint_text hints.Interval = codes "a domain has two points between its first and its last integer, as IN 1..39"
+hint_text hints.Arithmetic = codes "there is no arithmetic: a comparison has a column or an integer on each side"
+hint_text hints.Hyphen = codes "a name has letters, digits and _ alone"
+hint_text hints.CommaAtEnd = codes "a comma stands before this, and nothing between them: leave the comma out"
+hint_text hints.Function = codes "there are no functions as COUNT, SUM or MAX: a query answers with columns of its rows"
+hint_text hints.Parenthesis = codes "comparisons stand without parentheses, and with AND between them"
+hint_text hints.Negation = codes "there is no NOT: turn the comparison around, as >= for what is not <"
+hint_text hints.Between = codes "BETWEEN is written as two comparisons with AND between them, one for each end"
+hint_text hints.Pattern = codes "there is no LIKE: each value is an integer; docs/DATA.md has a filter, tools/filters/names, that makes integers of texts"
+hint_text hints.Null = codes "there is no NULL: a row has an integer for each column"
+hint_text hints.Order = codes "SHARED stands behind CREATE, and before COMPACT and QUERY"
+hint_text hints.Join = codes "streams are joined by FROM with a comma between them, and by comparisons behind WHERE"
+hint_text hints.Clause = codes "a query ends with its comparisons: answers have no order, no groups, no windows and no bound on their number"
+hint_text hints.Choice = codes "IN gives a column of a stream its domain: create a query for each value"
+hint_text hints.BareQuery = codes "a query has a name: write CREATE QUERY, its name and AS before SELECT"
+hint_text hints.Alias = codes "streams and columns have one name each: leave the other name out"
+hint_text hints.Typed = codes "a column has no type, since each value is an integer: write its name alone, or a domain as IN 1..39 behind it"
+hint_text hints.Chained = codes "a comparison has two sides: write 0 < S.a AND S.a < 9 for 0 < S.a < 9"
+hint_text hints.Streamless = codes "a row begins with the name of its stream, as Stream,1,2"
+hint_text hints.Exponent = codes "an integer has no exponent: write all digits, as 1000 for 1e3; docs/DATA.md tells of numbers"
+hint_text hints.DropStream = codes "a stream is not dropped: write DROP QUERY for each of its queries, and create a stream with another name; docs/QUERIES.md tells what may be said"
+hint_text hints.ExplainQuery = codes "EXPLAIN stands before the name of a live query: create the query, and then write EXPLAIN and its name; docs/QUERIES.md tells of EXPLAIN"
+hint_text hints.Replace = codes "nothing is replaced: write DROP QUERY and CREATE QUERY, on a line each; docs/QUERIES.md tells what may be said"
+hint_text hints.Show = codes "there is no SHOW: EXPLAIN shows one live query, and CHECKPOINT all streams and queries; docs/OPERATING.md tells of CHECKPOINT"
+hint_text hints.Continued = codes "a statement stands on one line: put this behind the line before; docs/QUERIES.md tells what may be said"
 
 -- a text, or another where it is empty
 abbrev pub or_text : List ℕ → List ℕ → List ℕ
@@ -107,12 +107,12 @@ hint_sentence hint streams = hint_text hint ++ example_for hint streams
 
 -- what stands at a place
 abbrev pub standing_text : Standing → List ℕ
-standing_text standing.End = texts.STANDS_END.now
-standing_text standing.Word = texts.STANDS_WORD.now
-standing_text standing.Reserved = texts.STANDS_RESERVED.now
-standing_text standing.Integer = texts.STANDS_INTEGER.now
-standing_text standing.Sign = texts.STANDS_SIGN.now
-standing_text standing.Strange = texts.STANDS_STRANGE.now
+standing_text standing.End = codes "a statement stands on one line, and the line ends here"
+standing_text standing.Word = codes "a word stands here"
+standing_text standing.Reserved = codes "a reserved word stands here"
+standing_text standing.Integer = codes "an integer stands here"
+standing_text standing.Sign = codes "a sign stands here"
+standing_text standing.Strange = codes "a byte stands here that begins no word, integer or sign"
 
 -- texts with a comma and a space between two
 abbrev pub listed : {X : Type 0} → (X → List ℕ) → List X → List ℕ
@@ -203,33 +203,29 @@ domain_text stream field streams =
 abbrev pub column_fault : List Shape → ColumnAst → List ℕ
 column_fault streams c = filled texts.NO_COLUMN.now (c.stream ∷ c.column ∷ []) ++ there_are_like c.column (column_names (shape_at streams (unwrap_or (stream_number streams c.stream) 255)).columns)
 
--- the sentence of a fault of the name of a stream
-unfoldable pub stream_sentence : Fault → List Shape → List ℕ
-stream_sentence (faults.DuplicateStream name) streams = filled texts.STREAM_THERE.now (name ∷ [])
-stream_sentence (faults.SelfJoin name) streams = filled texts.TWICE_IN_FROM.now (name ∷ [])
-stream_sentence (faults.NoStream name) streams = filled texts.NO_STREAM.now (name ∷ []) ++ there_are_like name (stream_names streams)
-stream_sentence (faults.LockTwice name) streams = filled texts.LOCK_TWICE.now (name ∷ [])
-stream_sentence (faults.LockNoStream name) streams = filled texts.LOCK_NO_STREAM.now (name ∷ []) ++ there_are_like name (stream_names streams)
-stream_sentence _ streams = []
-
 -- the sentence of a fault of names
 unfoldable pub name_sentence : Fault → List Shape → List (List ℕ) → List ℕ
+name_sentence (faults.DuplicateStream name) streams live = filled texts.STREAM_THERE.now (name ∷ [])
 name_sentence (faults.DuplicateColumn name) streams live = filled texts.COLUMN_TWICE.now (name ∷ [])
 name_sentence (faults.DuplicateQuery name) streams live = filled texts.QUERY_LIVE.now (name ∷ [])
+name_sentence (faults.SelfJoin name) streams live = filled texts.TWICE_IN_FROM.now (name ∷ [])
+name_sentence (faults.NoStream name) streams live = filled texts.NO_STREAM.now (name ∷ []) ++ there_are_like name (stream_names streams)
 name_sentence (faults.NotInFrom column) streams live = filled texts.NOT_IN_FROM.now (column.stream ∷ column.column ∷ [])
 name_sentence (faults.NoColumn column) streams live = column_fault streams column
 name_sentence (faults.NoQuery name) streams live = filled texts.NO_QUERY.now (name ∷ []) ++ there_are_like name live
-name_sentence fault streams live = stream_sentence fault streams
+name_sentence (faults.LockTwice name) streams live = filled texts.LOCK_TWICE.now (name ∷ [])
+name_sentence (faults.LockNoStream name) streams live = filled texts.LOCK_NO_STREAM.now (name ∷ []) ++ there_are_like name (stream_names streams)
+name_sentence _ streams live = []
 
--- the sentence of a fault of a row
-unfoldable pub row_sentence : List ℕ → Fault → List Shape → List ℕ
-row_sentence text faults.RowKey streams = texts.ROW_KEY.now
-row_sentence text (faults.RowName bytes) streams = filled texts.ROW_NAME.now (decimal bytes ∷ [])
-row_sentence text faults.RowStream streams = filled texts.ROW_STREAM.now [] ++ there_are_like (word_of text) (stream_names streams)
-row_sentence text (faults.Arity stream wanted found) streams = arity_text stream wanted found streams
-row_sentence text (faults.Value field) streams = value_text text field
-row_sentence text (faults.Domain stream field) streams = domain_text stream field streams
-row_sentence text _ streams = []
+-- the sentence of a fault of a row, or else of names
+unfoldable pub row_sentence : List ℕ → Fault → List Shape → List (List ℕ) → List ℕ
+row_sentence text faults.RowKey streams live = texts.ROW_KEY.now
+row_sentence text (faults.RowName bytes) streams live = filled texts.ROW_NAME.now (decimal bytes ∷ [])
+row_sentence text faults.RowStream streams live = filled texts.ROW_STREAM.now [] ++ there_are_like (word_of text) (stream_names streams)
+row_sentence text (faults.Arity stream wanted found) streams live = arity_text stream wanted found streams
+row_sentence text (faults.Value field) streams live = value_text text field
+row_sentence text (faults.Domain stream field) streams live = domain_text stream field streams
+row_sentence text fault streams live = name_sentence fault streams live
 
 -- the sentence of a fault, over what is left of its line, the streams, and the names of the live queries
 unfoldable pub sentence_text : List ℕ → Fault → List Shape → List (List ℕ) → List ℕ
@@ -240,10 +236,4 @@ sentence_text text (faults.Locked line) streams live = filled texts.LOCKED.now (
 sentence_text text faults.NoLock streams live = texts.NO_LOCK.now
 sentence_text text faults.TooManyStreams streams live = texts.MANY_STREAMS.now
 sentence_text text faults.TooManyQueries streams live = texts.MANY_QUERIES.now
-sentence_text text faults.RowKey streams live = row_sentence text faults.RowKey streams
-sentence_text text (faults.RowName bytes) streams live = row_sentence text (faults.RowName bytes) streams
-sentence_text text faults.RowStream streams live = row_sentence text faults.RowStream streams
-sentence_text text (faults.Arity stream wanted found) streams live = row_sentence text (faults.Arity stream wanted found) streams
-sentence_text text (faults.Value field) streams live = row_sentence text (faults.Value field) streams
-sentence_text text (faults.Domain stream field) streams live = row_sentence text (faults.Domain stream field) streams
-sentence_text text fault streams live = name_sentence fault streams live
+sentence_text text fault streams live = row_sentence text fault streams live

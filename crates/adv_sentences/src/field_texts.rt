@@ -40,18 +40,11 @@ fn has_point(text: &[u8]) -> bool
     text.iter().any(|byte| *byte == b'.')
 }
 
-// Whether a byte is the letter before an exponent.
-fn is_exponent_letter(byte: u8) -> bool
-    ensures { result ≡ sentences.is_exponent_letter byte }
-{
-    byte == b'e' || byte == b'E'
-}
-
 // Whether a letter stands in a text that may stand before an exponent.
 fn has_exponent(text: &[u8]) -> bool
     ensures { result ≡ list_any sentences.is_exponent_letter text.now }
 {
-    text.iter().any(|byte| is_exponent_letter(*byte))
+    text.iter().any(|byte| *byte == b'e' || *byte == b'E')
 }
 
 /// Returns why a field is no integer.

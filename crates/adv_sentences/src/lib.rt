@@ -5,7 +5,6 @@ mod field_texts;
 mod lists;
 mod sayings;
 mod sentences;
-mod shown;
 mod texts;
 mod writing;
 

@@ -85,23 +85,16 @@ fn alike(word: &[u8], names: &[Name]) -> Option<Name>
     }
 }
 
-// The name that a word may mean, where there is one.
-fn write_alike<O: Sink>(out: &mut O, meant: Option<Name>) -> Written
-    ensures { Writes result (O.seen out.old) (O.seen out.new) (sentences.alike_text meant) }
-{
-    match meant {
-        None => Ok(()),
-        Some(name) => write_filled(out, ALIKE, &[Filling::Text(name.bytes())]),
-    }
-}
-
 /// Writes which names there are, or that there is none, and the one that a word may mean.
 #[tactic(auto, using(crate::proofs::Writers::writes_after, crate::proofs::Writers::broke_off, crate::proofs::Writers::stopped))]
 pub fn write_there_like<O: Sink>(out: &mut O, word: &[u8], names: &[Name]) -> Written
     ensures { Writes result (O.seen out.old) (O.seen out.new) (sentences.there_are_like word.now names.now) }
 {
     write_there_are(out, names)?;
-    write_alike(out, alike(word, names))
+    match alike(word, names) {
+        None => Ok(()),
+        Some(name) => write_filled(out, ALIKE, &[Filling::Text(name.bytes())]),
+    }
 }
 
 // Each candidate behind a comma and a space.

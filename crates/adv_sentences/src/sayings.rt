@@ -125,34 +125,15 @@ pub fn write_column<O: Sink>(out: &mut O, template: &[u8], column: &ColumnAst) -
     write_filled(out, template, &fillings)
 }
 
-// That a column is none of its stream, which are, and the one that its name may mean.
-#[tactic(auto, using(crate::proofs::Writers::writes_after, crate::proofs::Writers::broke_off, crate::proofs::Writers::stopped))]
-fn write_column_among<O: Sink>(out: &mut O, column: &ColumnAst, names: &[Name]) -> Written
-    ensures { Writes result (O.seen out.old) (O.seen out.new) (filled words.NO_COLUMN.now (column.now.stream ∷ column.now.column ∷ []) ++ sentences.there_are_like column.now.column names.now) }
-{
-    write_column(out, texts::NO_COLUMN, column)?;
-    write_there_like(out, column.column.bytes(), names)
-}
-
 /// Writes that a column is none of its stream, and which are.
+#[tactic(auto, using(crate::proofs::Writers::writes_after, crate::proofs::Writers::broke_off, crate::proofs::Writers::stopped))]
 pub fn write_no_column<O: Sink>(out: &mut O, column: &ColumnAst, catalog: &Catalog) -> Written
     ensures { Writes result (O.seen out.old) (O.seen out.new) (sentences.column_fault catalog.now column.now) }
 {
     let stream = catalog.find(&column.stream).unwrap_or(u8::MAX);
     let names = names_of_columns(columns_of(catalog, stream));
-    write_column_among(out, column, names.as_slice())
-}
-
-// How many fields a row wants and has, by the name of its stream and both numbers.
-fn write_counts<O: Sink>(out: &mut O, name: &[u8], wanted: u8, found: u16) -> Written
-    ensures { Writes result (O.seen out.old) (O.seen out.new) (filled words.ROW_COUNTS.now (name.now ∷ decimal wanted ∷ decimal found ∷ [])) }
-{
-    let fillings = [
-        Filling::Text(name),
-        Filling::Count(u32::from(wanted)),
-        Filling::Count(u32::from(found)),
-    ];
-    write_filled(out, texts::ROW_COUNTS, &fillings)
+    write_column(out, texts::NO_COLUMN, column)?;
+    write_there_like(out, column.column.bytes(), names.as_slice())
 }
 
 /// Writes how many fields a row of a stream wants, how many it has, and the names of its columns.
@@ -167,7 +148,12 @@ pub fn write_arity<O: Sink>(
     ensures { Writes result (O.seen out.old) (O.seen out.new) (sentences.arity_text stream wanted found catalog.now) }
 {
     let names = names_of_columns(columns_of(catalog, stream));
-    write_counts(out, name_of(catalog, stream), wanted, found)?;
+    let fillings = [
+        Filling::Text(name_of(catalog, stream)),
+        Filling::Count(u32::from(wanted)),
+        Filling::Count(u32::from(found)),
+    ];
+    write_filled(out, texts::ROW_COUNTS, &fillings)?;
     write_names(out, names.as_slice())
 }
 

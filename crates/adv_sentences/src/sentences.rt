@@ -21,20 +21,7 @@ use sql_parser::What;
 fn limit_template(what: What) -> &'static [u8]
     ensures { result.now ≡ sentences.limit_template what }
 {
-    match what {
-        What::Name => texts::LIMIT_NAME,
-        What::Columns => texts::LIMIT_COLUMNS,
-        What::Select => texts::LIMIT_SELECT,
-        What::From => texts::LIMIT_FROM,
-        What::Atoms => texts::LIMIT_ATOMS,
-        What::Soft => texts::LIMIT_SOFT,
-        What::Attrs => texts::LIMIT_ATTRS,
-        What::Value => texts::LIMIT_VALUE,
-        What::Consts => texts::LIMIT_CONSTS,
-        What::Domain => texts::LIMIT_DOMAIN,
-        What::Tuple => texts::LIMIT_TUPLE,
-        What::Streams => texts::LIMIT_STREAMS,
-    }
+    texts::LIMITS[what as usize]
 }
 
 // The sentence of a limit, with the number that is found where there is one.
@@ -51,56 +38,7 @@ fn write_limit<O: Sink>(out: &mut O, what: What, found: Option<u16>) -> Written
 fn hint_text(hint: Hint) -> &'static [u8]
     ensures { result.now ≡ sentences.hint_text hint }
 {
-    match hint {
-        Hint::ByteOrderMark => texts::HINT_BOM,
-        Hint::Quoted => texts::HINT_QUOTED,
-        Hint::Unequal => texts::HINT_UNEQUAL,
-        Hint::Star => texts::HINT_STAR,
-        Hint::AtMost => texts::HINT_AT_MOST,
-        Hint::AtLeast => texts::HINT_AT_LEAST,
-        Hint::Equal => texts::HINT_EQUAL,
-        Hint::Decimal => texts::HINT_DECIMAL,
-        Hint::Or => texts::HINT_OR,
-        Hint::BareColumn => texts::HINT_BARE_COLUMN,
-        Hint::ReservedName => texts::HINT_RESERVED,
-        Hint::BareRow => texts::HINT_BARE_ROW,
-        Hint::Comment => texts::HINT_COMMENT,
-        Hint::Interval => texts::HINT_INTERVAL,
-        Hint::Arithmetic => texts::HINT_ARITHMETIC,
-        Hint::Hyphen => texts::HINT_HYPHEN,
-        Hint::CommaAtEnd => texts::HINT_COMMA_AT_END,
-        Hint::Function => texts::HINT_FUNCTION,
-        Hint::Parenthesis => texts::HINT_PARENTHESIS,
-        Hint::Negation => texts::HINT_NEGATION,
-        Hint::Between => texts::HINT_BETWEEN,
-        Hint::Pattern => texts::HINT_PATTERN,
-        Hint::Null => texts::HINT_NULL,
-        Hint::Order => texts::HINT_ORDER,
-        Hint::Join => texts::HINT_JOIN,
-        Hint::Clause => texts::HINT_CLAUSE,
-        Hint::Choice => texts::HINT_CHOICE,
-        Hint::BareQuery => texts::HINT_BARE_QUERY,
-        Hint::Alias => texts::HINT_ALIAS,
-        Hint::Typed => texts::HINT_TYPE,
-        Hint::Chained => texts::HINT_CHAINED,
-        Hint::Streamless => texts::HINT_STREAMLESS,
-        Hint::Exponent => texts::HINT_EXPONENT,
-        Hint::DropStream => texts::HINT_DROP_STREAM,
-        Hint::ExplainQuery => texts::HINT_EXPLAIN_QUERY,
-        Hint::Replace => texts::HINT_REPLACE,
-        Hint::Show => texts::HINT_SHOW,
-        Hint::Continued => texts::HINT_CONTINUED,
-    }
-}
-
-// An example of a column, where one stands behind a hint.
-fn write_example_for<O: Sink>(out: &mut O, hint: Hint, catalog: &Catalog) -> Written
-    ensures { Writes result (O.seen out.old) (O.seen out.new) (sentences.example_for hint catalog.now) }
-{
-    match hint {
-        Hint::BareColumn => write_example(out, catalog),
-        _ => Ok(()),
-    }
+    texts::HINTS[hint as usize]
 }
 
 // What is meant, with an example where one stands behind it.
@@ -109,21 +47,17 @@ fn write_hint<O: Sink>(out: &mut O, hint: Hint, catalog: &Catalog) -> Written
     ensures { Writes result (O.seen out.old) (O.seen out.new) (sentences.hint_sentence hint catalog.now) }
 {
     write_all(out, hint_text(hint))?;
-    write_example_for(out, hint, catalog)
+    match hint {
+        Hint::BareColumn => write_example(out, catalog),
+        _ => Ok(()),
+    }
 }
 
 // The sentence of what stands at a place.
 fn standing_text(standing: Standing) -> &'static [u8]
     ensures { result.now ≡ sentences.standing_text standing }
 {
-    match standing {
-        Standing::End => texts::STANDS_END,
-        Standing::Word => texts::STANDS_WORD,
-        Standing::Reserved => texts::STANDS_RESERVED,
-        Standing::Integer => texts::STANDS_INTEGER,
-        Standing::Sign => texts::STANDS_SIGN,
-        Standing::Strange => texts::STANDS_STRANGE,
-    }
+    texts::STANDINGS[standing as usize]
 }
 
 // What is said where no candidate may stand. A byte that begins nothing may stand behind the place where the statement goes wrong.
@@ -162,46 +96,38 @@ fn write_syntax<O: Sink>(
     }
 }
 
-// The sentence of a fault of the name of a stream.
-#[tactic(auto, unfolding(crate::specs::Sentences::stream_sentence))]
-fn write_stream_sentence<O: Sink>(out: &mut O, fault: &Fault, catalog: &Catalog) -> Written
-    ensures { Writes result (O.seen out.old) (O.seen out.new) (sentences.stream_sentence fault.now catalog.now) }
+// The sentence of a fault of names.
+#[tactic(auto, unfolding(crate::specs::Sentences::name_sentence))]
+fn write_name_sentence<O: Sink>(out: &mut O, fault: &Fault, known: &Known<'_>) -> Written
+    ensures { Writes result (O.seen out.old) (O.seen out.new) (sentences.name_sentence fault.now known.now.catalog.now known.now.live.now) }
 {
+    let catalog = known.catalog;
     match fault {
         Fault::DuplicateStream { name } => write_name(out, texts::STREAM_THERE, name),
+        Fault::DuplicateColumn { name } => write_name(out, texts::COLUMN_TWICE, name),
+        Fault::DuplicateQuery { name } => write_name(out, texts::QUERY_LIVE, name),
         Fault::SelfJoin { name } => write_name(out, texts::TWICE_IN_FROM, name),
         Fault::NoStream { name } => write_no_stream(out, texts::NO_STREAM, name, catalog),
+        Fault::NotInFrom { column } => write_column(out, texts::NOT_IN_FROM, column),
+        Fault::NoColumn { column } => write_no_column(out, column, catalog),
+        Fault::NoQuery { name } => write_name_among(out, texts::NO_QUERY, name, known.live),
         Fault::LockTwice { name } => write_name(out, texts::LOCK_TWICE, name),
         Fault::LockNoStream { name } => write_no_stream(out, texts::LOCK_NO_STREAM, name, catalog),
         _ => Ok(()),
     }
 }
 
-// The sentence of a fault of names.
-#[tactic(auto, unfolding(crate::specs::Sentences::name_sentence))]
-fn write_name_sentence<O: Sink>(out: &mut O, fault: &Fault, known: &Known<'_>) -> Written
-    ensures { Writes result (O.seen out.old) (O.seen out.new) (sentences.name_sentence fault.now known.now.catalog.now known.now.live.now) }
-{
-    match fault {
-        Fault::DuplicateColumn { name } => write_name(out, texts::COLUMN_TWICE, name),
-        Fault::DuplicateQuery { name } => write_name(out, texts::QUERY_LIVE, name),
-        Fault::NotInFrom { column } => write_column(out, texts::NOT_IN_FROM, column),
-        Fault::NoColumn { column } => write_no_column(out, column, known.catalog),
-        Fault::NoQuery { name } => write_name_among(out, texts::NO_QUERY, name, known.live),
-        _ => write_stream_sentence(out, fault, known.catalog),
-    }
-}
-
-// The sentence of a fault of a row.
+// The sentence of a fault of a row, or else of names.
 #[tactic(auto, unfolding(crate::specs::Sentences::row_sentence))]
 fn write_row_sentence<O: Sink>(
     out: &mut O,
     text: &[u8],
     fault: &Fault,
-    catalog: &Catalog,
+    known: &Known<'_>,
 ) -> Written
-    ensures { Writes result (O.seen out.old) (O.seen out.new) (sentences.row_sentence text.now fault.now catalog.now) }
+    ensures { Writes result (O.seen out.old) (O.seen out.new) (sentences.row_sentence text.now fault.now known.now.catalog.now known.now.live.now) }
 {
+    let catalog = known.catalog;
     match fault {
         Fault::RowKey => write_all(out, texts::ROW_KEY),
         Fault::RowName { bytes } => write_number(out, texts::ROW_NAME, u64::from(*bytes)),
@@ -213,7 +139,7 @@ fn write_row_sentence<O: Sink>(
         } => write_arity(out, *stream, *wanted, *found, catalog),
         Fault::Value { field } => write_value(out, text, *field),
         Fault::Domain { stream, field } => write_domain(out, *stream, *field, catalog),
-        _ => Ok(()),
+        _ => write_name_sentence(out, fault, known),
     }
 }
 
@@ -235,21 +161,6 @@ pub fn write_sentence<O: Sink>(
         Fault::NoLock => write_all(out, texts::NO_LOCK),
         Fault::TooManyStreams => write_all(out, texts::MANY_STREAMS),
         Fault::TooManyQueries => write_all(out, texts::MANY_QUERIES),
-        Fault::RowKey
-        | Fault::RowName { .. }
-        | Fault::RowStream
-        | Fault::Arity { .. }
-        | Fault::Value { .. }
-        | Fault::Domain { .. } => write_row_sentence(out, text, fault, known.catalog),
-        Fault::DuplicateStream { .. }
-        | Fault::DuplicateColumn { .. }
-        | Fault::DuplicateQuery { .. }
-        | Fault::SelfJoin { .. }
-        | Fault::NoStream { .. }
-        | Fault::NotInFrom { .. }
-        | Fault::NoColumn { .. }
-        | Fault::NoQuery { .. }
-        | Fault::LockTwice { .. }
-        | Fault::LockNoStream { .. } => write_name_sentence(out, fault, known),
+        _ => write_row_sentence(out, text, fault, known),
     }
 }

@@ -82,161 +82,85 @@ pub const FIELD_OUTSIDE: &[u8] = b"field _, _._, lies outside ";
 
 pub const DOMAIN: &[u8] = b"_.._";
 
-// Limits, with the number that is found.
-pub const LIMIT_NAME: &[u8] = b"a name has at most 24 bytes, and this has ";
-
-pub const LIMIT_COLUMNS: &[u8] = b"a stream has at most 8 columns, and this has ";
-
-pub const LIMIT_SELECT: &[u8] = b"a query selects at most 8 columns, and this selects ";
-
-pub const LIMIT_FROM: &[u8] = b"FROM names at most 4 streams, and here it names ";
-
-pub const LIMIT_ATOMS: &[u8] = b"a query has at most 16 comparisons, and this has ";
-
-pub const LIMIT_SOFT: &[u8] =
-    b"a query has at most 8 comparisons with <=, >= or <>, and this has _: write a < 6 for a <= 5, and a > 4 for a >= 5";
-
-pub const LIMIT_ATTRS: &[u8] =
-    b"the comparisons name at most 12 different columns, and here they name ";
-
-pub const LIMIT_VALUE: &[u8] =
-    b"an integer has at most 15 digits, and one of a line of a checkpoint or a lock at most 64 bits; one here has more";
-
-pub const LIMIT_CONSTS: &[u8] =
-    b"the comparisons name at most 6 different integers, and here they name ";
-
-pub const LIMIT_DOMAIN: &[u8] =
-    b"the first integer of a domain is at most the second, and here one is greater: exchange the two";
-
-pub const LIMIT_TUPLE: &[u8] = b"a tuple has at most 8 integers, and this has ";
-
-pub const LIMIT_STREAMS: &[u8] = b"a lock names at most 16 streams, and this names ";
-
-// What was most likely meant.
-pub const HINT_BOM: &[u8] =
-    b"a byte order mark stands here, which many editors do not show: save the file without one";
-
-pub const HINT_QUOTED: &[u8] =
-    b"nothing is quoted: a name and an integer stand as they are; docs/DATA.md has a filter, tools/filters/names, that makes integers of texts";
-
-pub const HINT_UNEQUAL: &[u8] = b"unequal is written <>";
-
-pub const HINT_STAR: &[u8] = b"* stands for no columns: name each that is selected";
-
-pub const HINT_AT_MOST: &[u8] = b"at most is written <=";
-
-pub const HINT_AT_LEAST: &[u8] = b"at least is written >=";
-
-pub const HINT_EQUAL: &[u8] = b"equal is written = once";
-
-pub const HINT_DECIMAL: &[u8] =
-    b"an integer has no point: count in smaller units, as 125 tenths for 12.5";
-
-pub const HINT_OR: &[u8] =
-    b"comparisons are joined by AND alone: create a query for each side of OR";
-
-pub const HINT_BARE_COLUMN: &[u8] = b"a column is written with its stream, as ";
-
-pub const HINT_RESERVED: &[u8] =
-    b"this word is reserved, and no name: take another, as one with _ behind it";
-
-pub const HINT_BARE_ROW: &[u8] =
-    b"a row has commas between its stream and its integers, as Stream,1,2";
-
-pub const HINT_COMMENT: &[u8] = b"a comment stands on a line of its own, which begins with --";
-
-pub const HINT_INTERVAL: &[u8] =
-    b"a domain has two points between its first and its last integer, as IN 1..39";
-
-pub const HINT_ARITHMETIC: &[u8] =
-    b"there is no arithmetic: a comparison has a column or an integer on each side";
-
-pub const HINT_HYPHEN: &[u8] = b"a name has letters, digits and _ alone";
-
-pub const HINT_COMMA_AT_END: &[u8] =
-    b"a comma stands before this, and nothing between them: leave the comma out";
-
-pub const HINT_FUNCTION: &[u8] =
-    b"there are no functions as COUNT, SUM or MAX: a query answers with columns of its rows";
-
-pub const HINT_PARENTHESIS: &[u8] =
-    b"comparisons stand without parentheses, and with AND between them";
-
-pub const HINT_NEGATION: &[u8] =
-    b"there is no NOT: turn the comparison around, as >= for what is not <";
-
-pub const HINT_BETWEEN: &[u8] =
-    b"BETWEEN is written as two comparisons with AND between them, one for each end";
-
-pub const HINT_PATTERN: &[u8] =
-    b"there is no LIKE: each value is an integer; docs/DATA.md has a filter, tools/filters/names, that makes integers of texts";
-
-pub const HINT_NULL: &[u8] = b"there is no NULL: a row has an integer for each column";
-
-pub const HINT_ORDER: &[u8] = b"SHARED stands behind CREATE, and before COMPACT and QUERY";
-
-pub const HINT_JOIN: &[u8] =
-    b"streams are joined by FROM with a comma between them, and by comparisons behind WHERE";
-
-pub const HINT_CLAUSE: &[u8] =
-    b"a query ends with its comparisons: answers have no order, no groups, no windows and no bound on their number";
-
-pub const HINT_CHOICE: &[u8] =
-    b"IN gives a column of a stream its domain: create a query for each value";
-
-pub const HINT_BARE_QUERY: &[u8] =
-    b"a query has a name: write CREATE QUERY, its name and AS before SELECT";
-
-pub const HINT_ALIAS: &[u8] = b"streams and columns have one name each: leave the other name out";
-
-pub const HINT_TYPE: &[u8] =
-    b"a column has no type, since each value is an integer: write its name alone, or a domain as IN 1..39 behind it";
-
-pub const HINT_CHAINED: &[u8] =
-    b"a comparison has two sides: write 0 < S.a AND S.a < 9 for 0 < S.a < 9";
-
-pub const HINT_STREAMLESS: &[u8] = b"a row begins with the name of its stream, as Stream,1,2";
-
-pub const HINT_EXPONENT: &[u8] =
-    b"an integer has no exponent: write all digits, as 1000 for 1e3; docs/DATA.md tells of numbers";
-
-pub const HINT_DROP_STREAM: &[u8] =
-    b"a stream is not dropped: write DROP QUERY for each of its queries, and create a stream with another name; docs/QUERIES.md tells what may be said";
-
-pub const HINT_EXPLAIN_QUERY: &[u8] =
-    b"EXPLAIN stands before the name of a live query: create the query, and then write EXPLAIN and its name; docs/QUERIES.md tells of EXPLAIN";
-
-pub const HINT_REPLACE: &[u8] =
-    b"nothing is replaced: write DROP QUERY and CREATE QUERY, on a line each; docs/QUERIES.md tells what may be said";
-
-pub const HINT_SHOW: &[u8] =
-    b"there is no SHOW: EXPLAIN shows one live query, and CHECKPOINT all streams and queries; docs/OPERATING.md tells of CHECKPOINT";
-
-pub const HINT_CONTINUED: &[u8] =
-    b"a statement stands on one line: put this behind the line before; docs/QUERIES.md tells what may be said";
-
+// An example of a column.
 pub const EXAMPLE: &[u8] = b"_._";
 
 pub const STREAM_EXAMPLE: &[u8] = b"Stream";
 
 pub const COLUMN_EXAMPLE: &[u8] = b"column";
 
-// What stands at a place, and what may stand there.
-pub const STANDS_END: &[u8] = b"a statement stands on one line, and the line ends here";
-
-pub const STANDS_WORD: &[u8] = b"a word stands here";
-
-pub const STANDS_RESERVED: &[u8] = b"a reserved word stands here";
-
-pub const STANDS_INTEGER: &[u8] = b"an integer stands here";
-
-pub const STANDS_SIGN: &[u8] = b"a sign stands here";
-
-pub const STANDS_STRANGE: &[u8] = b"a byte stands here that begins no word, integer or sign";
-
+// What may stand at a place.
 pub const NOTHING_MAY: &[u8] = b", where the statement has ended";
 
 pub const NOTHING_FITS: &[u8] =
     b", where nothing may stand: the statement has ended, or goes wrong before";
 
 pub const MAY_STAND: &[u8] = b", here may stand: ";
+
+// What was most likely meant, by the number of the hint.
+pub const HINTS: [&[u8]; 38] = [
+    b"a byte order mark stands here, which many editors do not show: save the file without one",
+    b"nothing is quoted: a name and an integer stand as they are; docs/DATA.md has a filter, tools/filters/names, that makes integers of texts",
+    b"unequal is written <>",
+    b"* stands for no columns: name each that is selected",
+    b"at most is written <=",
+    b"at least is written >=",
+    b"equal is written = once",
+    b"an integer has no point: count in smaller units, as 125 tenths for 12.5",
+    b"comparisons are joined by AND alone: create a query for each side of OR",
+    b"a column is written with its stream, as ",
+    b"this word is reserved, and no name: take another, as one with _ behind it",
+    b"a row has commas between its stream and its integers, as Stream,1,2",
+    b"a comment stands on a line of its own, which begins with --",
+    b"a domain has two points between its first and its last integer, as IN 1..39",
+    b"there is no arithmetic: a comparison has a column or an integer on each side",
+    b"a name has letters, digits and _ alone",
+    b"a comma stands before this, and nothing between them: leave the comma out",
+    b"there are no functions as COUNT, SUM or MAX: a query answers with columns of its rows",
+    b"comparisons stand without parentheses, and with AND between them",
+    b"there is no NOT: turn the comparison around, as >= for what is not <",
+    b"BETWEEN is written as two comparisons with AND between them, one for each end",
+    b"there is no LIKE: each value is an integer; docs/DATA.md has a filter, tools/filters/names, that makes integers of texts",
+    b"there is no NULL: a row has an integer for each column",
+    b"SHARED stands behind CREATE, and before COMPACT and QUERY",
+    b"streams are joined by FROM with a comma between them, and by comparisons behind WHERE",
+    b"a query ends with its comparisons: answers have no order, no groups, no windows and no bound on their number",
+    b"IN gives a column of a stream its domain: create a query for each value",
+    b"a query has a name: write CREATE QUERY, its name and AS before SELECT",
+    b"streams and columns have one name each: leave the other name out",
+    b"a column has no type, since each value is an integer: write its name alone, or a domain as IN 1..39 behind it",
+    b"a comparison has two sides: write 0 < S.a AND S.a < 9 for 0 < S.a < 9",
+    b"a row begins with the name of its stream, as Stream,1,2",
+    b"an integer has no exponent: write all digits, as 1000 for 1e3; docs/DATA.md tells of numbers",
+    b"a stream is not dropped: write DROP QUERY for each of its queries, and create a stream with another name; docs/QUERIES.md tells what may be said",
+    b"EXPLAIN stands before the name of a live query: create the query, and then write EXPLAIN and its name; docs/QUERIES.md tells of EXPLAIN",
+    b"nothing is replaced: write DROP QUERY and CREATE QUERY, on a line each; docs/QUERIES.md tells what may be said",
+    b"there is no SHOW: EXPLAIN shows one live query, and CHECKPOINT all streams and queries; docs/OPERATING.md tells of CHECKPOINT",
+    b"a statement stands on one line: put this behind the line before; docs/QUERIES.md tells what may be said",
+];
+
+// What is said of a limit, by its number, with a hole for the number that is found where there is one.
+pub const LIMITS: [&[u8]; 12] = [
+    b"a name has at most 24 bytes, and this has ",
+    b"a stream has at most 8 columns, and this has ",
+    b"a query selects at most 8 columns, and this selects ",
+    b"FROM names at most 4 streams, and here it names ",
+    b"a query has at most 16 comparisons, and this has ",
+    b"a query has at most 8 comparisons with <=, >= or <>, and this has _: write a < 6 for a <= 5, and a > 4 for a >= 5",
+    b"the comparisons name at most 12 different columns, and here they name ",
+    b"an integer has at most 15 digits, and one of a line of a checkpoint or a lock at most 64 bits; one here has more",
+    b"the comparisons name at most 6 different integers, and here they name ",
+    b"the first integer of a domain is at most the second, and here one is greater: exchange the two",
+    b"a tuple has at most 8 integers, and this has ",
+    b"a lock names at most 16 streams, and this names ",
+];
+
+// What stands at a place, by the number of its kind.
+pub const STANDINGS: [&[u8]; 6] = [
+    b"a statement stands on one line, and the line ends here",
+    b"a word stands here",
+    b"a reserved word stands here",
+    b"an integer stands here",
+    b"a sign stands here",
+    b"a byte stands here that begins no word, integer or sign",
+];

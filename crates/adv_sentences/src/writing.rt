@@ -1,20 +1,76 @@
 //! The text of a fault.
+ghost use Rattle.std.specs.Prelude.{◌≡◌, ◌++◌, ◌≤◌, length, map};
 ghost use Rattle.io_streams.specs.Sink.{Writes};
 ghost use Rattle.adv_sentences.specs.Texts as specs;
 ghost use Rattle.adv_sentences.specs.Texts.{fault_text};
 
 use crate::sentences::write_sentence;
-use crate::shown::{write_mark, write_quoted};
 use crate::texts;
 use adv_diagnosis::{Fault, Known, place_of, word_of};
 use adv_hints::front_of;
 use adv_templates::{Filling, Written, write_filled};
+use arrayvec::ArrayVec;
 use io_streams::{Sink, write_all};
 use sql_parser::classify;
 use sql_replies::{Refusal, word_text};
 
-/// The last place that is shown.
-const LAST_SHOWN: u16 = 200;
+/// The most bytes of a line that are shown, and the last place.
+const MOST_SHOWN: u16 = 200;
+
+// What says that more bytes follow, where they do.
+fn more_text(text: &[u8]) -> &'static [u8]
+    ensures { result.now ≡ specs.more_text text.now }
+{
+    if usize::from(MOST_SHOWN) < text.len() {
+        b".."
+    } else {
+        b""
+    }
+}
+
+// A line behind two spaces: its first 200 bytes, and `..` where there are more.
+#[tactic(auto, unfolding(crate::specs::Texts::quoted_text))]
+fn write_quoted<O: Sink>(out: &mut O, text: &[u8]) -> Written
+    ensures { Writes result (O.seen out.old) (O.seen out.new) (specs.quoted_text text.now) }
+{
+    write_enclosed(out, front_of(text, MOST_SHOWN), more_text(text))
+}
+
+// A blank as wide as a byte.
+fn blank_for(byte: u8) -> u8
+    ensures { result ≡ specs.blank_for byte }
+{
+    if byte == b'\t' { b'\t' } else { b' ' }
+}
+
+// Blanks as wide as at most 200 bytes.
+fn blanks_for(front: &[u8]) -> ArrayVec<u8, 200>
+    requires { length front.now ≤ 200 }
+    ensures { result.items ≡ map specs.blank_for front.now }
+{
+    let mut blanks = ArrayVec::new();
+    for byte in front {
+        blanks.push(blank_for(*byte));
+    }
+    blanks
+}
+
+// A text between two spaces and another text at the end of a line.
+fn write_enclosed<O: Sink>(out: &mut O, text: &[u8], end: &'static [u8]) -> Written
+    ensures { Writes result (O.seen out.old) (O.seen out.new) (specs.enclosed text.now end.now) }
+{
+    let fillings = [Filling::Text(text), Filling::Fixed(end)];
+    write_filled(out, texts::ENCLOSED, &fillings)
+}
+
+// A mark below a place that stands behind these bytes of a line, at most 200.
+fn write_mark<O: Sink>(out: &mut O, front: &[u8]) -> Written
+    requires { length front.now ≤ 200 }
+    ensures { Writes result (O.seen out.old) (O.seen out.new) (specs.mark_line front.now) }
+{
+    let blanks = blanks_for(front);
+    write_enclosed(out, blanks.as_slice(), b"^")
+}
 
 // `line 8: Syntax`
 #[tactic(auto, unfolding(crate::specs::Texts::head_text))]
@@ -30,42 +86,23 @@ fn write_mark_at<O: Sink>(out: &mut O, text: &[u8], place: Option<u16>) -> Writt
     ensures { Writes result (O.seen out.old) (O.seen out.new) (specs.mark_text text.now place) }
 {
     match place {
-        None => Ok(()),
-        Some(at) => {
-            if LAST_SHOWN < at {
-                Ok(())
-            } else {
-                write_mark(out, front_of(text, at))
-            }
-        }
+        Some(at) if at <= MOST_SHOWN => write_mark(out, front_of(text, at)),
+        _ => Ok(()),
     }
 }
 
-// The line and its mark.
-#[tactic(auto, using(crate::proofs::Writers::writes_after, crate::proofs::Writers::broke_off, crate::proofs::Writers::stopped))]
-fn write_marked<O: Sink>(out: &mut O, text: &[u8], place: Option<u16>) -> Written
-    ensures { Writes result (O.seen out.old) (O.seen out.new) (specs.marked_text text.now place) }
-{
-    write_quoted(out, text)?;
-    write_mark_at(out, text, place)
-}
-
 // The line and its mark; a line that is too long is not shown.
-#[tactic(auto, unfolding(crate::specs::Texts::shown_text))]
+#[tactic(auto, using(crate::proofs::Writers::writes_after, crate::proofs::Writers::broke_off, crate::proofs::Writers::stopped), unfolding(crate::specs::Texts::shown_text))]
 fn write_shown<O: Sink>(out: &mut O, text: &[u8], fault: &Fault) -> Written
     ensures { Writes result (O.seen out.old) (O.seen out.new) (specs.shown_text text.now fault.now) }
 {
     match fault {
         Fault::LineTooLong => Ok(()),
-        _ => write_marked(out, text, place_of(text, fault)),
+        _ => {
+            write_quoted(out, text)?;
+            write_mark_at(out, text, place_of(text, fault))
+        }
     }
-}
-
-// `  at byte 310: `
-fn write_byte_number<O: Sink>(out: &mut O, at: u16) -> Written
-    ensures { Writes result (O.seen out.old) (O.seen out.new) (specs.byte_text at) }
-{
-    write_filled(out, texts::PLACE, &[Filling::Count(u32::from(at) + 1)])
 }
 
 // Two spaces, and the place by its number from 1 where it is not shown.
@@ -74,14 +111,10 @@ fn write_place<O: Sink>(out: &mut O, place: Option<u16>) -> Written
     ensures { Writes result (O.seen out.old) (O.seen out.new) (specs.place_text place) }
 {
     match place {
-        None => write_all(out, texts::INDENT),
-        Some(at) => {
-            if LAST_SHOWN < at {
-                write_byte_number(out, at)
-            } else {
-                write_all(out, texts::INDENT)
-            }
+        Some(at) if MOST_SHOWN < at => {
+            write_filled(out, texts::PLACE, &[Filling::Count(u32::from(at) + 1)])
         }
+        _ => write_all(out, texts::INDENT),
     }
 }
 

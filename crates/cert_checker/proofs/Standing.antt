@@ -18,6 +18,7 @@ use Rattle.plan_constraints.specs.PartConstraints.{of_signs}
 use Rattle.plan_constraints.specs.Solutions.{IsWithin}
 use Rattle.plan_constraints.proofs.Link.{of_no_signs, of_signs_more}
 use Rattle.plan_constraints.proofs.NodeFacts.{length-constraints}
+use Rattle.plan_constraints.proofs.Prefix.{pair_at, length-of_signs}
 use Rattle.plan_split_pairs.specs.Laws.{IsColumnOrShort}
 use Rattle.plan_split_pairs.proofs.Naming.{split_pairs_are_named}
 use Rattle.sem_whole.specs.System.{atom_bounds}
@@ -92,11 +93,6 @@ at_more b pre p s h =
     ap (λ z. b.base ++ z) (of_signs_more b.attrs b.pairs pre p s h)
     ∙ sym (append_assoc b.base (of_signs b.attrs b.pairs pre) (constraints_of b.attrs (element.Attr p.left) s p.right))
 
-pair_at : (ps : List Pair) (i : ℕ) (d : Pair) → i < length ps → slice_get ps i ≡ Some (slice_index_or ps i d)
-pair_at [] i d l = absurd (omega arith)
-pair_at (p ∷ ps) zero d l = refl
-pair_at (p ∷ ps) (suc i) d l = pair_at ps i d (omega arith)
-
 pub adds_sign : (q : QueryValue) (shown : Shown) (ps : List Pair) (pre : List Sign) (s : Sign) (d : Pair) (i : ℕ) (cs : List Constraint) → ps ≡ (branching_of shown q).pairs → i ≡ length pre → i < length ps
     → cs ≡ map (constraint_of (attrs_of q.atoms)) (atom_bounds (said (slice_index_or ps i d) s)) → All (IsWithin (length (attrs_of q.atoms))) cs → Adds q shown pre s cs
 adds_sign q shown ps pre s d i cs e n l c w =
@@ -111,14 +107,6 @@ adds_sign q shown ps pre s d i cs e n l c w =
     }
 
 -- ---- the place
-
--- at most two constraints stand for each sign
-length-of_signs : (xs : List Attr) (ps : List Pair) (ss : List Sign) → length (of_signs xs ps ss) ≤ 2 * length ss
-length-of_signs xs [] ss = omega arith
-length-of_signs xs (p ∷ ps) [] = omega arith
-length-of_signs xs (p ∷ ps) (s ∷ ss) =
-    let a : length (of_signs xs (p ∷ ps) (s ∷ ss)) ≡ length (constraints_of xs (element.Attr p.left) s p.right) + length (of_signs xs ps ss) = length-append (constraints_of xs (element.Attr p.left) s p.right) (of_signs xs ps ss) in
-    omega (arith, a, length-of_signs xs ps ss, length-constraints xs (element.Attr p.left) s p.right)
 
 few_at : (q : QueryValue) (shown : Shown) (p : TreeCursor) → Stands q shown p → length p.constraints.items ≤ 72 + 2 * length p.signs.items
 few_at q shown p h =

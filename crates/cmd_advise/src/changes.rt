@@ -51,25 +51,11 @@ fn has_sets(advice: &QueryAdvice) -> bool
     !advice.bounds.found.is_empty() || !advice.domains.found.is_empty()
 }
 
-// Whether numbers are told of COMPACT or of shared cells.
-fn has_numbers(advice: &QueryAdvice) -> bool
-    ensures { result ≡ change.has_numbers advice.now }
-{
-    advice.compact.is_some() || advice.shared.is_some()
-}
-
 // Whether a change is told that keeps every answer.
 fn keeps_answers(advice: &QueryAdvice) -> bool
     ensures { result ≡ change.keeps_answers advice.now }
 {
-    has_numbers(advice) || advice.distinct
-}
-
-// Whether any change is told but sets of columns.
-fn has_change(advice: &QueryAdvice) -> bool
-    ensures { result ≡ change.has_change advice.now }
-{
-    keeps_answers(advice) || has_comparisons(advice)
+    advice.compact.is_some() || advice.shared.is_some() || advice.distinct
 }
 
 // Whether a change is told that leaves rows out.
@@ -147,7 +133,7 @@ pub fn write_changes<O: Sink>(out: &mut O, advice: &QueryAdvice, names: &Names<'
 fn write_not_lifted<O: Sink>(out: &mut O, advice: &QueryAdvice) -> Written
     ensures { Writes result (O.seen out.old) (O.seen out.new) (change.not_lifted advice.now) }
 {
-    if has_change(advice) {
+    if keeps_answers(advice) || has_comparisons(advice) {
         Ok(())
     } else if advice.dearest.is_empty() {
         write_all(out, NOT_LIFTED)

@@ -2,7 +2,6 @@
 //! a column in another unit, or a lock makes all rows wrong.
 ghost use Rattle.std.specs.Prelude.{◌≡◌, ◌+◌, ◌-◌, ◌^◌, ◌<◌};
 ghost use Rattle.io_streams.specs.Sink.{Writes};
-ghost use Rattle.sql_parser.specs.LineKind.{stripped, kind_of_line};
 ghost use Rattle.adv_sentences.specs.Texts.{fault_text};
 ghost use Rattle.cmd_advise.specs.Finding as finding;
 
@@ -20,19 +19,12 @@ const MOST_ROWS: u64 = 20;
 const COUNTED: &[u8] =
     b"line _: 20 wrong rows are told above; this one is wrong too, and from here on such rows are counted alone\n";
 
-// Whether a line is a row.
-fn is_row(line: &[u8]) -> bool
-    ensures { result ≡ finding.is_row_kind (kind_of_line (stripped line.now)) }
-{
-    matches!(classify(line).0, LineKind::RowLine)
-}
-
 /// Returns whether a fault of a line is one of a row. Where a lock does not let the line, that is where it is one.
 pub fn is_row_fault(line: &[u8], fault: &Fault) -> bool
     ensures { result ≡ finding.is_row_fault line.now fault.now }
 {
     match fault {
-        Fault::Locked { .. } => is_row(line),
+        Fault::Locked { .. } => matches!(classify(line).0, LineKind::RowLine),
         Fault::RowKey
         | Fault::RowName { .. }
         | Fault::RowStream
@@ -55,15 +47,8 @@ fn write_wrong<O: Sink>(state: &Advising, line: &[u8], fault: &Fault, out: &mut 
     write_fault(out, state.lines() + 1, line, fault, &known)
 }
 
-// That a row is wrong, by the number of its line, and that from here on such rows are counted alone.
+// What is said of the next line, which is a row that is wrong: behind the first ones by its number alone that such rows are counted, and then nothing.
 #[tactic(auto, unfolding(crate::specs::Finding::counted_text))]
-fn write_counted<O: Sink>(out: &mut O, number: u64) -> Written
-    ensures { Writes result (O.seen out.old) (O.seen out.new) (finding.counted_text number) }
-{
-    write_filled(out, COUNTED, &[Filling::Number(number)])
-}
-
-// What is said of the next line, which is a row that is wrong.
 fn write_row<O: Sink>(state: &Advising, line: &[u8], fault: &Fault, out: &mut O) -> Written
     requires { state.now.lines < 2 ^ 64 - 1 }
     ensures { Writes result (O.seen out.old) (O.seen out.new) (finding.row_text state.now line.now fault.now) }
@@ -71,7 +56,7 @@ fn write_row<O: Sink>(state: &Advising, line: &[u8], fault: &Fault, out: &mut O)
     if state.rows() < MOST_ROWS {
         write_wrong(state, line, fault, out)
     } else if state.rows() == MOST_ROWS {
-        write_counted(out, state.lines() + 1)
+        write_filled(out, COUNTED, &[Filling::Number(state.lines() + 1)])
     } else {
         Ok(())
     }

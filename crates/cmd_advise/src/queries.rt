@@ -128,30 +128,6 @@ fn write_many_parts<O: Sink>(out: &mut O, advised: &AdvisedQuery, names: &Names<
     write_limit(out, advised, names)
 }
 
-// The condition that a query breaks first.
-fn write_broken<O: Sink>(
-    out: &mut O,
-    advised: &AdvisedQuery,
-    part: u32,
-    condition: Condition,
-    attr: Attr,
-    names: &Names<'_>,
-) -> Written
-    ensures { Writes result (O.seen out.old) (O.seen out.new) (queries.broken_line names.now.catalog.now names.now.from.now advised.now part condition attr) }
-{
-    let column = names_of(attr, names);
-    let distinct = advised.query.distinct();
-    write_violation(
-        out,
-        advised.number,
-        &advised.name,
-        part,
-        distinct,
-        condition,
-        column,
-    )
-}
-
 // A query that breaks a condition, what the part orders that breaks it, and what mends the query.
 #[tactic(auto, using(crate::proofs::Texts::writes_behind, crate::proofs::Texts::broke_off, crate::proofs::Texts::stopped))]
 fn write_refused<O: Sink>(
@@ -164,7 +140,17 @@ fn write_refused<O: Sink>(
 ) -> Written
     ensures { Writes result (O.seen out.old) (O.seen out.new) (queries.broken_text names.now.catalog.now names.now.from.now advised.now part condition attr) }
 {
-    write_broken(out, advised, part, condition, attr, names)?;
+    let column = names_of(attr, names);
+    let distinct = advised.query.distinct();
+    write_violation(
+        out,
+        advised.number,
+        &advised.name,
+        part,
+        distinct,
+        condition,
+        column,
+    )?;
     write_chains(out, part, advised.advice.chains.as_slice(), names)?;
     write_mends(out, &advised.advice, names)
 }

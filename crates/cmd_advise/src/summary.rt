@@ -1,7 +1,6 @@
 //! What all lines came to.
-ghost use Rattle.std.specs.Prelude.{◌≡◌, ◌-◌};
+ghost use Rattle.std.specs.Prelude.{◌≡◌};
 ghost use Rattle.io_streams.specs.Sink.{Writes};
-ghost use Rattle.cmd_advise.specs.State.{free_pages};
 ghost use Rattle.cmd_advise.specs.Summary as summary;
 
 use crate::state::{Advising, PAGES};
@@ -25,13 +24,6 @@ fn queries_word(count: u64) -> &'static [u8]
     if count == 1 { b"query" } else { b"queries" }
 }
 
-// How many pages are taken.
-fn pages_taken(state: &Advising) -> u32
-    ensures { result ≡ 16384 - free_pages state.now }
-{
-    PAGES - state.free()
-}
-
 /// Writes what all lines came to, in one line: how many were read, how many queries were accepted and what pages they take, how many were refused, and how
 /// many lines are at fault.
 #[tactic(auto, unfolding(crate::specs::Summary::summary_text))]
@@ -43,7 +35,7 @@ pub fn write_summary<O: Sink>(out: &mut O, state: &Advising) -> Written
         Filling::Fixed(lines_word(state.lines())),
         Filling::Number(state.accepted()),
         Filling::Fixed(queries_word(state.accepted())),
-        Filling::Count(pages_taken(state)),
+        Filling::Count(PAGES - state.free()),
         Filling::Number(state.refused()),
         Filling::Number(state.at_fault()),
         Filling::Fixed(lines_word(state.at_fault())),

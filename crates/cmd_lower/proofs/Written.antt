@@ -4,33 +4,46 @@ use Rattle.io_streams.specs.Sink.{SinkState, Wrote, BrokeOff, Writes}
 use Rattle.io_streams.proofs.Writing.{BrokeOff-stop}
 use Rattle.sem_query.specs.declared.atom.Attr.{Attr}
 use Rattle.sem_query.specs.declared.condition.Condition.{Condition}
-use Rattle.sem_query.specs.declared.decision.Decision.TheVariants as decision
 use Rattle.sem_query.specs.Query.{QueryValue}
-use Rattle.sem_query.specs.Verdict.{IsDecision}
 use Rattle.sql_catalog.specs.Streams.{Shape}
 use Rattle.sql_parser.specs.declared.tree.ColumnAst.{ColumnAst}
-use Rattle.sql_parser.specs.Resolution.{column_named}
+use Rattle.sql_parser.specs.Resolution.{HasNamed, IsColumnOf, column_named}
 use Rattle.sql_parser.specs.Naming.{column_text}
 use Rattle.sql_replies.specs.Texts.{condition_text}
-use Rattle.fam_fooling_sets.specs.Family.{FamilyValue}
-use Rattle.fam_text.specs.Answer.{HasFamilyOver, AreTakenRows}
+use Rattle.fam_fooling_sets.specs.Family.{FamilyValue, IsFamily}
+use Rattle.fam_text.specs.Answer.{AreTakenRows}
 use Rattle.fam_text.specs.Text.{rows_text}
 use Rattle.cmd_lower.specs.declared.finding.LowerFinding.{LowerFinding}
 use Rattle.cmd_lower.specs.declared.finding.LowerFinding.TheVariants.{Rows}
 use Rattle.cmd_lower.specs.declared.form.LowerForm.{LowerForm}
-use Rattle.cmd_lower.specs.Formed.{BreaksOne}
-use Rattle.cmd_lower.specs.Finding.{AreMadeFor, IsFinding}
+use Rattle.cmd_lower.specs.Finding.{AreMadeFor, IsShown, by_plain, by_form, IsFinding}
 use Rattle.cmd_lower.specs.Text.{head_text, end_text, finding_text}
+use Rattle.sql_replies.proofs.Named.{violation_is_named}
 use Rattle.sql_printer.proofs.WritesBehind.{writes_behind}
 
--- a family that is found is one for what is decided
-pub rows-found : (streams : List Shape) (q : QueryValue) (form : LowerForm) (finding : LowerFinding) (part : ℕ) (condition : Condition) (a : Attr) (f : FamilyValue) → finding ≡ Rows part condition a f → IsFinding streams q form finding
-    → BreaksOne q × IsDecision q (decision.Violation part condition a) × AreMadeFor form.families condition × HasFamilyOver streams q condition a form.rows f
-rows-found streams q form finding part condition a f e is = subst (IsFinding streams q form) e is
+-- a family that is found is one for what is broken first
+pub rows-found : (streams : List Shape) (q : QueryValue) (wanted : LowerForm) (finding : LowerFinding) (part : ℕ) (condition : Condition) (a : Attr) (f : FamilyValue) → finding ≡ Rows part condition a f → IsFinding streams q wanted finding
+    → AreMadeFor wanted.families condition × IsShown streams q wanted.rows part condition a f
+rows-found streams q wanted finding part condition a f e is = subst (IsFinding streams q wanted) e is
 
--- its rows are rows of the streams
-pub rows-taken : (streams : List Shape) (q : QueryValue) (condition : Condition) (a : Attr) (n : ℕ) (f : FamilyValue) → HasFamilyOver streams q condition a n f → AreTakenRows streams (length f.rows) f
-rows-taken streams q condition a n f h = subst (λ (m : ℕ). AreTakenRows streams m f) (sym h.family.size) h.taken
+module _ (streams : List Shape) (q : QueryValue) (n part : ℕ) (condition : Condition) (a : Attr) (f : FamilyValue) where
+  -- it is a family for the column that is named
+  pub shown-family : IsShown streams q n part condition a f → IsFamily q condition a n f
+  shown-family (by_plain judged is h) = h.family
+  shown-family (by_form judged b is h) = h.family
+
+  -- which the streams have
+  pub shown-column : HasNamed streams q → IsShown streams q n part condition a f → IsColumnOf streams q.from a
+  shown-column named (by_plain judged is h) = violation_is_named streams q _ named is
+  shown-column named (by_form judged b is h) = h.column
+
+  -- its rows are rows of the streams
+  pub shown-taken : IsShown streams q n part condition a f → AreTakenRows streams (length f.rows) f
+  shown-taken is = subst (λ (m : ℕ). AreTakenRows streams m f) (sym (shown-family is).size) (by is)
+    where
+      by : IsShown streams q n part condition a f → AreTakenRows streams n f
+      by (by_plain judged is h) = h.taken
+      by (by_form judged b is h) = h.taken
 
 module _ (streams : List Shape) (q : QueryValue) (name title : List ℕ) (n part : ℕ) (condition : Condition) (a : Attr) (column : ColumnAst) (f : FamilyValue)
     (named : title ≡ name) (is : column ≡ column_named streams q.from a) (size : length f.rows ≡ n) where

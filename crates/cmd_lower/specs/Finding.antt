@@ -1,5 +1,5 @@
 -- What is found for a query, and how it is written.
-use Rattle.std.specs.Prelude.{ℕ, ⊤, None, List}
+use Rattle.std.specs.Prelude.{ℕ, ⊤, ◌⊎◌, IsTrue, IsFalse, None, Some, List}
 use Rattle.sem_query.specs.declared.atom.Attr.{Attr}
 use Rattle.sem_query.specs.declared.condition.Condition.{Condition}
 use Rattle.sem_query.specs.declared.condition.Condition.TheVariants.{C1, C2, C3}
@@ -7,22 +7,18 @@ use Rattle.sem_query.specs.declared.decision.Decision.TheVariants as decision
 use Rattle.sem_query.specs.Query.{QueryValue}
 use Rattle.sem_query.specs.Verdict.{IsDecision}
 use Rattle.sql_catalog.specs.Streams.{Shape}
+use Rattle.sem_forms.specs.Forms.{HasWholeForm}
 use Rattle.sem_forms.specs.Parts.{IsFormViolation}
+use Rattle.fam_fooling_sets.specs.Family.{FamilyValue}
 use Rattle.fam_fooling_sets.specs.Lowered.{HasPairAcross, LacksRows}
-use Rattle.fam_text.specs.Answer.{HasFamilyOver}
+use Rattle.fam_text.specs.Answer.{HasFamilyOver, IsFoundOver}
 use Rattle.cmd_lower.specs.declared.form.Families.{Families}
 use Rattle.cmd_lower.specs.declared.form.Families.TheVariants as families
 use Rattle.cmd_lower.specs.declared.form.LowerForm.{LowerForm}
 use Rattle.cmd_lower.specs.declared.finding.NoFamily.TheVariants as why
 use Rattle.cmd_lower.specs.declared.finding.LowerFinding.{LowerFinding}
 use Rattle.cmd_lower.specs.declared.finding.LowerFinding.TheVariants.{Nothing, Rows}
-use Rattle.cmd_lower.specs.Formed.{BreaksOne}
-
--- the first condition that the plain parts of the query break, at some part and column
-pub record BreaksFirst (q : QueryValue) (condition : Condition) : Type 0 where
-  pub part : ℕ
-  pub attr : Attr
-  pub is : IsDecision q (decision.Violation part condition attr)
+use Rattle.cmd_lower.specs.Formed.{goes_by_form, BreaksFirst, BreaksOne}
 
 -- families are made for the condition
 abbrev pub AreMadeFor : Families → Condition → Type 0
@@ -31,13 +27,19 @@ AreMadeFor families.FirstTwo C1 = ⊤
 AreMadeFor families.FirstTwo C2 = ⊤
 AreMadeFor families.FirstTwo C3 = ⊥
 
--- What is found for a query over these streams. It breaks no condition, by the parts by which it is judged; or else it breaks one, and its plain parts
--- break none; or they break the second first, and a pair lies between streams; or the third, for which no families are made, or of which it has none; or
--- there is a family of so many rows for what they break first.
+-- A family of so many rows for what the query breaks first: by its plain parts, at the column that is named; or by the split form of a compact query, at the
+-- column that is named or at one of another stream.
+pub data IsShown (streams : List Shape) (q : QueryValue) (n part : ℕ) (condition : Condition) (a : Attr) (f : FamilyValue) : Type 0 where
+  by_plain : IsFalse (goes_by_form q) → IsDecision q (decision.Violation part condition a) → HasFamilyOver streams q condition a n f → IsShown streams q n part condition a f
+  by_form : IsTrue (goes_by_form q) → (b : Attr) → IsFormViolation q (Some record { part = part; condition = condition; attr = b }) → IsFoundOver streams q condition a n f
+      → IsShown streams q n part condition a f
+
+-- What is found for a query over these streams. The whole form of a compact query fits, or it breaks no condition by the parts by which it is judged. Or else it
+-- is compact, breaks one, and no family was found; or its plain parts break the second first, and a pair lies between streams; or the third is broken first, for
+-- which no families are made, or of which the plain parts have none; or there is a family of so many rows for what is broken first.
 abbrev pub IsFinding : List Shape → QueryValue → LowerForm → LowerFinding → Type 0
-IsFinding streams q form (Nothing why.Bounded) = IsFormViolation q None
-IsFinding streams q form (Nothing why.Form) = BreaksOne q × IsDecision q decision.Bounded
-IsFinding streams q form (Nothing why.C2) = BreaksOne q × BreaksFirst q C2 × HasPairAcross q
-IsFinding streams q form (Nothing why.C3) = BreaksOne q × BreaksFirst q C3 × (AreMadeFor form.families C3 → LacksRows q)
-IsFinding streams q form (Rows part condition attr family) =
-    BreaksOne q × IsDecision q (decision.Violation part condition attr) × AreMadeFor form.families condition × HasFamilyOver streams q condition attr form.rows family
+IsFinding streams q form (Nothing why.Bounded) = HasWholeForm q ⊎ IsFormViolation q None
+IsFinding streams q form (Nothing why.Form) = IsTrue (goes_by_form q) × BreaksOne q
+IsFinding streams q form (Nothing why.C2) = IsFalse (goes_by_form q) × BreaksFirst q C2 × HasPairAcross q
+IsFinding streams q form (Nothing why.C3) = BreaksFirst q C3 × (AreMadeFor form.families C3 → IsFalse (goes_by_form q) × LacksRows q)
+IsFinding streams q form (Rows part condition attr family) = AreMadeFor form.families condition × IsShown streams q form.rows part condition attr family

@@ -1,12 +1,11 @@
 -- What is found before anything is written.
-use Rattle.std.specs.Prelude.{◌≡◌, ℕ, ⊤, Bool, true, false, if◌then◌else◌, List}
+use Rattle.std.specs.Prelude.{◌≡◌, ℕ, ⊤, Bool, true, false, List}
 use Rattle.std.specs.declared.result.Result.{Result}
 use Rattle.std.specs.declared.result.Result.TheVariants.{Ok, Err}
 use Rattle.io_streams.specs.Source.{SourceState}
 use Rattle.sem_query.specs.declared.condition.Condition.TheVariants.{C1, C2, C3}
 use Rattle.sem_query.specs.declared.decision.Decision.{Decision}
 use Rattle.sem_query.specs.declared.decision.Decision.TheVariants as decision
-use Rattle.sem_query.specs.Query.{QueryValue}
 use Rattle.fam_fooling_sets.specs.declared.error.LowerError.{LowerError}
 use Rattle.fam_fooling_sets.specs.declared.error.LowerError.TheVariants as why
 use Rattle.fam_fooling_sets.specs.Family.{FamilyValue}
@@ -21,28 +20,23 @@ use Rattle.sql_script.specs.Ending.{StopsAt}
 use Rattle.cmd_lower.specs.declared.form.Families.{Families}
 use Rattle.cmd_lower.specs.declared.form.Families.TheVariants as families
 use Rattle.cmd_lower.specs.declared.form.LowerForm.{LowerForm}
-use Rattle.cmd_lower.specs.declared.finding.NoFamily.{NoFamily}
 use Rattle.cmd_lower.specs.declared.finding.NoFamily.TheVariants as none
 use Rattle.cmd_lower.specs.declared.finding.LowerFinding.{LowerFinding}
 use Rattle.cmd_lower.specs.declared.finding.LowerFinding.TheVariants.{Nothing, Rows}
 use Rattle.cmd_lower.specs.declared.lower_command.Lowered.{Lowered}
-use Rattle.cmd_lower.specs.Formed.{goes_by_form, IsTooLarge}
+use Rattle.cmd_lower.specs.Formed.{IsTooLarge}
 use Rattle.cmd_lower.specs.Finding.{IsFinding}
 use Rattle.cmd_lower.specs.Lowering.{Lowers, found}
 use Rattle.cmd_lower.specs.Text.{finding_text}
 
--- why there is no family where no plain part breaks a condition
-abbrev pub none_broken : QueryValue → NoFamily
-none_broken q = if goes_by_form q then none.Form else none.Bounded
-
 -- what a decision and the answer to the call for a family come to; the call is answered that nothing is broken exactly where it is decided so
-abbrev pub finding_of : NoFamily → Decision → Result FamilyValue LowerError → Result LowerFinding ScriptEnd
-finding_of unbroken decision.Bounded answer = Ok (Nothing unbroken)
-finding_of unbroken (decision.Violation part condition attr) (Ok family) = Ok (Rows part condition attr family)
-finding_of unbroken (decision.Violation part condition attr) (Err why.Bounded) = Ok (Nothing unbroken)
-finding_of unbroken (decision.Violation part condition attr) (Err why.C2) = Ok (Nothing none.C2)
-finding_of unbroken (decision.Violation part condition attr) (Err why.C3) = Ok (Nothing none.C3)
-finding_of unbroken (decision.Violation part condition attr) (Err why.Memory) = Err Memory
+abbrev pub finding_of : Decision → Result FamilyValue LowerError → Result LowerFinding ScriptEnd
+finding_of decision.Bounded answer = Ok (Nothing none.Bounded)
+finding_of (decision.Violation part condition attr) (Ok family) = Ok (Rows part condition attr family)
+finding_of (decision.Violation part condition attr) (Err why.Bounded) = Ok (Nothing none.Bounded)
+finding_of (decision.Violation part condition attr) (Err why.C2) = Ok (Nothing none.C2)
+finding_of (decision.Violation part condition attr) (Err why.C3) = Ok (Nothing none.C3)
+finding_of (decision.Violation part condition attr) (Err why.Memory) = Err Memory
 
 -- how a script ends whose query has too many parts
 abbrev pub refused : Script → ScriptEnd

@@ -1,17 +1,18 @@
 //! What is found for the query of a script.
-ghost use Rattle.std.specs.Prelude.{◌≡◌, ◌≤◌, IsTrue, length};
+ghost use Rattle.std.specs.Prelude.{◌≡◌, ◌≤◌, IsTrue, IsFalse, Some, length};
 ghost use Rattle.sem_query.specs.Parts.{AreParts, sign_lists};
+ghost use Rattle.sem_forms.specs.Forms.{HasWholeForm};
+ghost use Rattle.sem_forms.specs.Parts.{HasTooManyParts, IsFormViolation};
 ghost use Rattle.sql_parser.specs.Resolution.{HasNamed};
 ghost use Rattle.cmd_lower.specs.Formed as formed;
-ghost use Rattle.cmd_lower.specs.Formed.{GoesByPlain};
 ghost use Rattle.cmd_lower.specs.Found as found;
 ghost use Rattle.cmd_lower.specs.Found.{FindsFor};
 
 use crate::form::{Families, LowerForm};
-use fam_fooling_sets::{Family, LowerError};
-use fam_text::family;
+use fam_fooling_sets::{Family, FoundFamily, LowerError};
+use fam_text::{family, found_family};
 use plan_conditions::decide;
-use plan_forms::{PartsRefusal, parts_plan};
+use plan_forms::{PartsRefusal, parts_plan, whole_form};
 use plan_parts::{SplitError, split};
 use sem_query::{Attr, Condition, Decision, Part, Query};
 use sql_replies::Refusal;
@@ -23,12 +24,12 @@ use std::alloc::Global;
 pub enum NoFamily {
     /// It breaks no condition.
     Bounded,
-    /// It is compact, and breaks a condition by its form, while none of the parts that it has without COMPACT breaks one.
+    /// It is compact and breaks a condition by its form, and no family was found.
     Form,
     /// The first condition that it breaks is the second, and a pair lies between streams.
     C2,
-    /// The first condition that it breaks is the third, and no family is made for that; or it is compact, a column has a domain, or a pair lies between
-    /// streams.
+    /// The first condition that it breaks is the third, and no family is made for that; or it is not compact, and a column has a domain, or a pair lies
+    /// between streams.
     C3,
 }
 
@@ -53,27 +54,15 @@ fn goes_by_form(query: &Query) -> bool
     query.compact() && !query.is_filter()
 }
 
-// Why there is no family where no plain part breaks a condition.
-fn none_broken(query: &Query) -> NoFamily
-    ensures { result ≡ found.none_broken query.now }
-{
-    if goes_by_form(query) {
-        NoFamily::Form
-    } else {
-        NoFamily::Bounded
-    }
-}
-
 // What the decision by the plain parts and the answer to the call for a family come to.
 fn finding_of(
-    unbroken: NoFamily,
     decision: Decision,
     answer: Result<Family, LowerError>,
 ) -> Result<LowerFinding, ScriptEnd>
-    ensures { result ≡ found.finding_of unbroken decision answer }
+    ensures { result ≡ found.finding_of decision answer }
 {
     match decision {
-        Decision::Bounded => Ok(LowerFinding::Nothing(unbroken)),
+        Decision::Bounded => Ok(LowerFinding::Nothing(NoFamily::Bounded)),
         Decision::Violation {
             part,
             condition,
@@ -85,7 +74,7 @@ fn finding_of(
                 attr,
                 family,
             }),
-            Err(LowerError::Bounded) => Ok(LowerFinding::Nothing(unbroken)),
+            Err(LowerError::Bounded) => Ok(LowerFinding::Nothing(NoFamily::Bounded)),
             Err(LowerError::C2) => Ok(LowerFinding::Nothing(NoFamily::C2)),
             Err(LowerError::C3) => Ok(LowerFinding::Nothing(NoFamily::C3)),
             Err(LowerError::Memory) => Err(ScriptEnd::Memory),
@@ -132,7 +121,7 @@ fn find_in(
     form: LowerForm,
 ) -> Result<LowerFinding, ScriptEnd>
     requires named { HasNamed script.now.catalog script.now.query }
-    requires plain { GoesByPlain script.now.query }
+    requires plain { IsFalse (formed.goes_by_form script.now.query) }
     requires parts { AreParts script.now.query (sign_lists parts.now) }
     requires few { length parts.now ≤ 4096 }
     ensures { FindsFor result script.now form }
@@ -149,13 +138,13 @@ fn find_in(
         &script.catalog,
         form.rows,
     );
-    finding_of(none_broken(&script.query), decision, answer)
+    finding_of(decision, answer)
 }
 
 // The same by the plain parts.
 fn find_by_parts(alloc: Global, script: &Script, form: LowerForm) -> Result<LowerFinding, ScriptEnd>
     requires named { HasNamed script.now.catalog script.now.query }
-    requires plain { GoesByPlain script.now.query }
+    requires plain { IsFalse (formed.goes_by_form script.now.query) }
     ensures { FindsFor result script.now form }
 {
     match split(alloc, &script.query) {
@@ -165,10 +154,53 @@ fn find_by_parts(alloc: Global, script: &Script, form: LowerForm) -> Result<Lowe
     }
 }
 
-// The same for a query that is judged by its form. COMPACT changes no answer, so where that form breaks a condition the plain parts tell the family.
-fn find_by_form(alloc: Global, script: &Script, form: LowerForm) -> Result<LowerFinding, ScriptEnd>
+// The family of a query that breaks a condition by its split form.
+fn find_for(
+    alloc: Global,
+    script: &Script,
+    form: LowerForm,
+    part: u32,
+    condition: Condition,
+    attr: Attr,
+) -> Result<LowerFinding, ScriptEnd>
     requires named { HasNamed script.now.catalog script.now.query }
     requires formed { IsTrue (formed.goes_by_form script.now.query) }
+    requires few { ¬ HasTooManyParts script.now.query }
+    requires broken { IsFormViolation script.now.query (Some (record { part = part; condition = condition; attr = attr })) }
+    ensures { FindsFor result script.now form }
+{
+    let decision = Decision::Violation {
+        part,
+        condition,
+        attr,
+    };
+    if is_left_out(form.families, decision) {
+        return Ok(LowerFinding::Nothing(NoFamily::C3));
+    }
+    match found_family(
+        alloc,
+        &script.query,
+        condition,
+        attr,
+        &script.catalog,
+        form.rows,
+    ) {
+        Ok(Some(FoundFamily { attr, family })) => Ok(LowerFinding::Rows {
+            part,
+            condition,
+            attr,
+            family,
+        }),
+        Ok(None) => Ok(LowerFinding::Nothing(NoFamily::Form)),
+        Err(_) => Err(ScriptEnd::Memory),
+    }
+}
+
+// The same for a compact query, by its split form.
+fn find_by_split(alloc: Global, script: &Script, form: LowerForm) -> Result<LowerFinding, ScriptEnd>
+    requires named { HasNamed script.now.catalog script.now.query }
+    requires formed { IsTrue (formed.goes_by_form script.now.query) }
+    requires unfit { ¬ HasWholeForm script.now.query }
     ensures { FindsFor result script.now form }
 {
     match parts_plan(alloc, &script.query, false) {
@@ -181,18 +213,31 @@ fn find_by_form(alloc: Global, script: &Script, form: LowerForm) -> Result<Lower
         ) => Ok(LowerFinding::Nothing(NoFamily::Bounded)),
         Err(
             PartsRefusal::Violation {
-                part: _part,
-                condition: _condition,
-                attr: _attr,
+                part,
+                condition,
+                attr,
             },
-        ) => find_by_parts(alloc, script, form),
+        ) => find_for(alloc, script, form, part, condition, attr),
         Err(PartsRefusal::TooManyParts) => Err(refused(script)),
         Err(PartsRefusal::Memory) => Err(ScriptEnd::Memory),
     }
 }
 
+// The same for a query that is judged by its form: it breaks no condition where its whole form fits.
+fn find_by_form(alloc: Global, script: &Script, form: LowerForm) -> Result<LowerFinding, ScriptEnd>
+    requires named { HasNamed script.now.catalog script.now.query }
+    requires formed { IsTrue (formed.goes_by_form script.now.query) }
+    ensures { FindsFor result script.now form }
+{
+    match whole_form(alloc, &script.query) {
+        Ok(Some(_plan)) => Ok(LowerFinding::Nothing(NoFamily::Bounded)),
+        Ok(None) => find_by_split(alloc, script, form),
+        Err(_) => Err(ScriptEnd::Memory),
+    }
+}
+
 /// Returns the family that is asked for of the query of a script, or why there is none. A query of more than 4,096 parts is refused at its line, as is a
-/// compact one with more split pairs or split parts than a query may have; or no memory is found.
+/// compact one whose whole form does not fit, with more split pairs or split parts than a query may have; or no memory is found.
 pub fn find(alloc: Global, script: &Script, form: LowerForm) -> Result<LowerFinding, ScriptEnd>
     requires { HasNamed script.now.catalog script.now.query }
     ensures { FindsFor result script.now form }

@@ -1,14 +1,13 @@
 //! The text of what is found for a script.
 ghost use Rattle.std.specs.Prelude.{◌≡◌, ◌<◌, ◌++◌, length, decimal};
 ghost use Rattle.io_streams.specs.Sink.{Writes};
-ghost use Rattle.sem_query.specs.declared.decision.Decision.TheVariants as decisions;
-ghost use Rattle.sem_query.specs.Verdict.{IsDecision};
 ghost use Rattle.sql_parser.specs.Resolution.{HasNamed};
 ghost use Rattle.sql_parser.specs.Naming.{column_text};
 ghost use Rattle.sql_replies.specs.Texts as texts;
 ghost use Rattle.sql_script.specs.Script as scripts;
-ghost use Rattle.fam_text.specs.Answer.{AreTakenRows, HasFamilyOver};
+ghost use Rattle.fam_text.specs.Answer.{AreTakenRows};
 ghost use Rattle.fam_text.specs.Text.{rows_text};
+ghost use Rattle.cmd_lower.specs.Finding.{IsShown};
 ghost use Rattle.cmd_lower.specs.Found.{IsSound, text_of};
 ghost use Rattle.cmd_lower.specs.declared.finding.LowerFinding.TheVariants as findings;
 ghost use Rattle.cmd_lower.specs.Text.{head_text, end_text, finding_text};
@@ -84,8 +83,7 @@ fn write_family<O: Sink>(
     n: u16,
 ) -> Result<(), WriteFault>
     requires named { HasNamed script.now.catalog script.now.query }
-    requires decision { IsDecision script.now.query (decisions.Violation part condition attr) }
-    requires family { HasFamilyOver script.now.catalog script.now.query condition attr n family.now }
+    requires shown { IsShown script.now.catalog script.now.query n part condition attr family.now }
     ensures { Writes result (O.seen out.old) (O.seen out.new) (finding_text script.now.catalog (scripts.name_of script.now.statement) script.now.query n (findings.Rows part condition attr family.now)) }
 {
     let name = name_of(&script.statement);

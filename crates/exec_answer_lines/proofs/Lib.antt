@@ -1,2 +1,4 @@
+mod Fronts
+pub mod Gathering
 mod Tails
 mod ThreeDigits

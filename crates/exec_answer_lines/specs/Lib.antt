@@ -1,2 +1,4 @@
 pub mod Copies
 pub mod Digits
+pub mod Gathering
+pub mod Keeping

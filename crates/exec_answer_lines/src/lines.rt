@@ -12,7 +12,7 @@ use itoa::write_digits;
 use sql_text::{Name, put_tuples};
 use std::simd::prelude::*;
 
-/// The bytes of the room: 32 short lines, which end at its end.
+/// The bytes of the room for a line: 32 short lines, which end at its end.
 pub const LINE_ROOM: usize = 528;
 
 // The bytes of a short line, of which one move copies all.
@@ -74,9 +74,9 @@ fn put_value_before(line: &mut [u8], end: usize, value: i64) -> usize
     start - 1
 }
 
-// Puts the values of a tuple at the end of a line, each behind a comma, and LF behind them. Returns where they start.
+/// Puts the values of a tuple at the end of a line, each behind a comma, and LF behind them. Returns where they start.
 #[inline(always)]
-fn put_values(line: &mut [u8], values: &[i64]) -> usize
+pub fn put_values(line: &mut [u8], values: &[i64]) -> usize
     requires few { length values.now ≤ 8 }
     requires size { length line.old ≡ 528 }
     ensures text { drop result line.new ≡ tuple_text values.now ++ 10 ∷ [] }

@@ -16,8 +16,9 @@ use Rattle.sem_query.specs.declared.plan.PartPlan.{PartPlan}
 use Rattle.sem_query.specs.Query.{QueryValue, attr_eq}
 use Rattle.sem_query.specs.declared.atom.Op.{Op}
 use Rattle.sem_query.specs.Assignment.{value, compares}
-use Rattle.sem_query.specs.Parts.{pairs, is_within, sign, sign_at, element_eq}
+use Rattle.sem_query.specs.Parts.{pairs, is_within, sign, sign_at, element_eq, pair_eq}
 use Rattle.sem_query.specs.Admission.{alone, sign_eq, meets_local, keeps_local}
+use Rattle.sem_query.proofs.Once.{pair_same}
 use Rattle.sem_laws.proofs.Tests.{sign_eq-itself, attr_eq-is, not_both, true_or_false, nat_true}
 use Rattle.exec_synopsis.specs.declared.prepared.Prepared.{Prepared}
 use Rattle.exec_synopsis.specs.Preparing.{IsPrepared, keeps_pair, keeps_tests}
@@ -41,6 +42,13 @@ said_or_not v ps ss i p s t within pair sign says has =
     ∙ sym (get_or-map (sign_at (alone v)) ps i p s within)
     ∙ ap (λ (xs : List Sign). get_or xs i s) has
     ∙ sym sign)
+
+-- a pair that is the same as one of some pairs, and a sign that is that of this one
+pub has_sign : (v : ℕ → ℤ) (ps : List Pair) (ss : List Sign) (i : ℕ) (d p : Pair) (e s : Sign) → i < length ps → pair_eq (get_or ps i d) p ≡ true → sign_eq (get_or ss i e) s ≡ true
+    → signs_at v ps ≡ ss → sign_eq (sign_at (alone v) p) s ≡ true
+has_sign v ps ss i d p e s within pair sign has =
+    let at : sign_at (alone v) (get_or ps i d) ≡ get_or ss i e = sym (get_or-map (sign_at (alone v)) ps i d e within) ∙ ap (λ (xs : List Sign). get_or xs i e) has in
+    ap (λ x. sign_eq (sign_at (alone v) x) s) (sym (pair_same (get_or ps i d) p pair)) ∙ ap (λ x. sign_eq x s) at ∙ sign
 
 -- a condition that asks for a sign of a pair
 pub asks_sign : (p : Pair) (s : Sign) (o : Op) (t : LocalCondition) → ((x y : ℤ) → compares o x (y +ℤ pos 0) ≡ sign_eq (sign x y) s)
@@ -77,16 +85,16 @@ module _ (place : ℕ) (tested : List Pair) (shown : List Sign) where
   AsksMore list more t = (v : ℕ → ℤ) → signs_at v tested ≡ shown → list_all (meets_local (alone v)) more ≡ (list_all (meets_local (alone v)) list && meets_any v t)
 
   -- one test more, of pairs, signs and tests as they are listed
-  pub tests_more : (ps pairs : List Pair) (ss signs : List Sign) (tests items : List ℕ) (list more : List LocalCondition) (i d : ℕ) (t : Option LocalCondition)
+  pub tests_more : (ps pairs : List Pair) (ss signs : List Sign) (tests items : List ℕ) (list more : List LocalCondition) (i d : ℕ)
       → pairs ≡ ps → signs ≡ ss → items ≡ tests → i < length items
-      → ((v : ℕ → ℤ) → meets_any v t ≡ keeps_pair place (alone v) (slice_get pairs (get_or items i d)) (slice_get signs (get_or items i d))) → AsksMore list more t
+      → ((v : ℕ → ℤ) → signs_at v tested ≡ shown → list_all (meets_local (alone v)) more ≡ (list_all (meets_local (alone v)) list && keeps_pair place (alone v) (slice_get pairs (get_or items i d)) (slice_get signs (get_or items i d))))
       → MeetWhere list (λ v. keeps_tests place (alone v) ps ss (take i tests)) → MeetWhere more (λ v. keeps_tests place (alone v) ps ss (take (i + 1) tests))
-  tests_more ps pairs ss signs tests items list more i d t same_pairs same_signs same within own asks done v has =
+  tests_more ps pairs ss signs tests items list more i d same_pairs same_signs same within asks done v has =
       let f : ℕ → Bool = λ k. keeps_pair place (alone v) (slice_get ps k) (slice_get ss k) in
       let n : ℕ = get_or items i d in
       asks v has
       ∙ ap₂ (λ a b. a && b) (done v has ∙ ap (λ (xs : List ℕ). list_all f (take i xs)) (sym same))
-      (own v ∙ ap₂ (λ (xs : List Pair) (ys : List Sign). keeps_pair place (alone v) (slice_get xs n) (slice_get ys n)) same_pairs same_signs)
+      (ap₂ (λ (xs : List Pair) (ys : List Sign). keeps_pair place (alone v) (slice_get xs n) (slice_get ys n)) same_pairs same_signs)
       ∙ sym (all_taken f items i d within)
       ∙ ap (λ (xs : List ℕ). list_all f (take (i + 1) xs)) same
 

@@ -2,6 +2,7 @@
 use Rattle.std.specs.Prelude.{◌≡◌, ℕ, ℤ, true, List, length, slice_get, slice_index_or, Some}
 use Rattle.std.specs.Option.{IfSome}
 use Rattle.sem_query.specs.declared.plan.PartPlan.{PartPlan}
+use Rattle.exec_synopsis.specs.declared.axes.Placement.{Placement}
 use Rattle.exec_part_index.specs.declared.shift.CellAt.{CellAt}
 use Rattle.exec_part_index.specs.declared.span.Span.{Span}
 use Rattle.exec_part_index.specs.declared.part_entry.PartEntry.{PartEntry}
@@ -15,9 +16,13 @@ use Rattle.exec_part_index.specs.SimpleBox.{IsSimpleBox, IsInBox}
 abbrev pub IsSimpleBoxOf : List PartPlan → ℕ → ℕ → SimpleBox → Type 0
 IsSimpleBoxOf parts place i simple_box = (part : PartPlan) → slice_get parts i ≡ Some part → IsSimpleBox part place simple_box
 
+-- where a row stands in the part of a number by the ranges of its dims
+abbrev pub IsInBoxOf : List PartPlan → ℕ → List ℤ → ℕ → Placement → Type 0
+IsInBoxOf parts place row i placement = (part : PartPlan) → slice_get parts i ≡ Some part → IsInBox part place row placement
+
 -- by the ranges of the dims of the part of a number, this is a row's cell there
 abbrev pub IsCellIn : List PartPlan → ℕ → List ℤ → ℕ → CellAt → Type 0
-IsCellIn parts place row i cell = (part : PartPlan) → slice_get parts i ≡ Some part → IsInBox part place row (placed cell)
+IsCellIn parts place row i cell = IsInBoxOf parts place row i (placed cell)
 
 -- the code of the part of a number, its remaining conditions and its box, the next part of its bucket, and what is told of that
 pub record IsPartEntry (parts : List PartPlan) (place : ℕ) (codes links : List ℕ) (spans : List Span) (i : ℕ) (entry : PartEntry) : Type 0 where

@@ -4,21 +4,23 @@ ghost use Rattle.std.specs.Prelude.{◌≡◌, ◌+◌, ◌*◌, ◌%◌, ◌^�
 ghost use Rattle.std.specs.List.{list_all};
 ghost use Rattle.sem_query.specs.Parts.{pairs, sign, sign_at};
 ghost use Rattle.sem_query.specs.Meaning.{by_column};
-ghost use Rattle.sem_query.specs.Admission.{alone, in_range, meets_local, admits};
-ghost use Rattle.sem_query.specs.Plan.{dims_at};
-ghost use Rattle.exec_synopsis.specs.Keeping.{keeps_part};
+ghost use Rattle.sem_query.specs.Admission.{alone, meets_local, admits};
 ghost use Rattle.exec_synopsis.specs.Preparing.{IsPrepared};
 ghost use Rattle.exec_synopsis.specs.Axes.{IsPlacement};
-ghost use Rattle.exec_part_index.specs.Prepared.{ArePrepared};
+ghost use Rattle.exec_synopsis.specs.Premises.{AreKeeping};
+ghost use Rattle.exec_part_index.specs.Prepared.{ArePrepared, IsPreparedPlan};
+ghost use Rattle.exec_part_index.specs.Leaving.{IsPlaced};
+ghost use Rattle.exec_part_index.specs.SimpleBox.{IsInBox};
 ghost use Rattle.exec_part_index.specs.Shift.{placed};
 ghost use Rattle.exec_part_index.specs.Shifts.{StandsAt};
-ghost use Rattle.exec_part_index.specs.PartEntry.{IsPartEntry, IsCellIn};
+ghost use Rattle.exec_part_index.specs.PartEntry.{IsPartEntry, IsSimpleBoxOf, IsInBoxOf, IsCellIn};
 ghost use Rattle.exec_part_index.specs.Owners.{BeginBehind, EachTakes, takes_rows};
 ghost use Rattle.exec_part_index.specs.Span.{in_span, IsSpan};
 ghost use Rattle.exec_part_index.specs.PartIndex.{signs_at, number_of, code_after, row_code, buckets, row_bucket, IsNext, AreLinked, IsPartIndex};
 
 use crate::owners::{each_takes, owners_at};
 use crate::part_entry::{PartEntry, entries_of};
+use crate::prepared::PreparedPlan;
 use crate::remaining::remaining_at;
 use crate::shift::CellAt;
 use crate::shifts::Chained;
@@ -286,27 +288,55 @@ impl PartIndex {
         are_met(row.as_slice(), conditions)
     }
 
-    // Where a row that has the code of a part stands in it, where the code does not tell all that the part asks. It is inlined: a call that takes the
-    // view of the row keeps it in memory for each row.
+    // Where a row stands in a part by the ranges of the dims alone.
+    #[inline(always)]
+    fn placement_by_box(
+        &self,
+        coded: &CodedRow<'_>,
+        prepared: &PreparedPlan,
+        i: u32,
+        entry: &PartEntry,
+    ) -> Placement
+        requires here { coded.now.pos < length coded.now.q.now.from }
+        requires plan { AreKeeping coded.now.q.now coded.now.parts.now }
+        requires inside { i < length coded.now.parts.now }
+        requires prepared { IsPreparedPlan coded.now.q.now coded.now.parts.now prepared.now }
+        requires entry { IsSimpleBoxOf coded.now.parts.now coded.now.pos i entry.now.simple_box }
+        ensures { IsInBoxOf coded.now.parts.now coded.now.pos coded.now.row.now.items i result }
+    {
+        let (q, parts) = (coded.q, coded.parts);
+        let part = parts.get(i);
+        let row = coded.row.as_slice();
+        match entry.simple_box.listed_placement(part, coded.pos, row) {
+            Some(placement) => placement,
+            None => { placement_by_dims(q, part, prepared.part(q, parts, i), coded.pos, coded.row) }
+        }
+    }
+
+    // Where a row that has the code of a part stands in it, where its box has more than one dim or the code does not tell all that the part asks. It
+    // is inlined, and what few parts want is not: that is given values alone, so that the view of a row stays out of memory.
     #[inline(always)]
     fn asked_placement(
         &self,
         coded: &CodedRow<'_>,
-        part: &PartPlan,
-        prepared: &Prepared,
+        prepared: &PreparedPlan,
         i: u32,
         entry: &PartEntry,
     ) -> Placement
-        requires here { coded.now.pos < length part.now.streams.items }
+        requires here { coded.now.pos < length coded.now.q.now.from }
+        requires plan { AreKeeping coded.now.q.now coded.now.parts.now }
+        requires inside { i < length coded.now.parts.now }
         requires part_index { IsPartIndex coded.now.q.now coded.now.parts.now coded.now.pos self.now }
-        requires prepared { IsPrepared (pairs coded.now.q.now) part.now prepared.now }
-        requires part { slice_get coded.now.parts.now i ≡ Some part.now }
+        requires prepared { IsPreparedPlan coded.now.q.now coded.now.parts.now prepared.now }
         requires entry { IsPartEntry coded.now.parts.now coded.now.pos self.now.codes.items self.now.links.items self.now.spans.items i entry.now }
         requires code { entry.now.code ≡ row_code self.now.tested.items (by_column coded.now.row.now.items) }
-        ensures { IsPlacement part.now coded.now.pos coded.now.row.now.items (admits coded.now.q.now part.now coded.now.pos (by_column coded.now.row.now.items)) result }
+        ensures { IsPlaced coded.now.q.now coded.now.parts.now coded.now.pos coded.now.row.now.items i result }
     {
-        let placement = placement_by_ranges(coded.q, part, prepared, coded.pos, coded.row);
+        let placement = self.placement_by_box(coded, prepared, i, entry);
         if !placement.is_inside() {
+            return placement;
+        }
+        if entry.span.is_none() {
             return placement;
         }
         if self.meets(entry.span, coded.row) {
@@ -316,59 +346,50 @@ impl PartIndex {
         }
     }
 
-    // Where a row that has the code of a part stands in it.
-    #[inline(always)]
-    fn coded_placement(
-        &self,
-        coded: &CodedRow<'_>,
-        part: &PartPlan,
-        prepared: &Prepared,
-        i: u32,
-        entry: &PartEntry,
-    ) -> Placement
-        requires here { coded.now.pos < length part.now.streams.items }
-        requires part_index { IsPartIndex coded.now.q.now coded.now.parts.now coded.now.pos self.now }
-        requires prepared { IsPrepared (pairs coded.now.q.now) part.now prepared.now }
-        requires part { slice_get coded.now.parts.now i ≡ Some part.now }
-        requires entry { IsPartEntry coded.now.parts.now coded.now.pos self.now.codes.items self.now.links.items self.now.spans.items i entry.now }
-        requires code { entry.now.code ≡ row_code self.now.tested.items (by_column coded.now.row.now.items) }
-        ensures { IsPlacement part.now coded.now.pos coded.now.row.now.items (admits coded.now.q.now part.now coded.now.pos (by_column coded.now.row.now.items)) result }
-    {
-        if !entry.span.is_none() {
-            return self.asked_placement(coded, part, prepared, i, entry);
-        }
-        let row = coded.row.as_slice();
-        match entry.simple_box.placement(part, coded.pos, row) {
-            Some(placement) => placement,
-            None => placement_by_ranges(coded.q, part, prepared, coded.pos, coded.row),
-        }
-    }
-
     /// Returns where a row stands in the part of a number.
-    pub fn placement_of(
-        &self,
-        coded: &CodedRow<'_>,
-        part: &PartPlan,
-        prepared: &Prepared,
-        i: u32,
-    ) -> Placement
-        requires here { coded.now.pos < length part.now.streams.items }
+    pub fn placement_of(&self, coded: &CodedRow<'_>, prepared: &PreparedPlan, i: u32) -> Placement
+        requires here { coded.now.pos < length coded.now.q.now.from }
+        requires plan { AreKeeping coded.now.q.now coded.now.parts.now }
+        requires inside { i < length coded.now.parts.now }
         requires part_index { IsPartIndex coded.now.q.now coded.now.parts.now coded.now.pos self.now }
-        requires prepared { IsPrepared (pairs coded.now.q.now) part.now prepared.now }
-        requires part { slice_get coded.now.parts.now i ≡ Some part.now }
+        requires prepared { IsPreparedPlan coded.now.q.now coded.now.parts.now prepared.now }
         requires code { coded.now.code ≡ row_code self.now.tested.items (by_column coded.now.row.now.items) }
-        ensures { IsPlacement part.now coded.now.pos coded.now.row.now.items (admits coded.now.q.now part.now coded.now.pos (by_column coded.now.row.now.items)) result }
+        ensures { IsPlaced coded.now.q.now coded.now.parts.now coded.now.pos coded.now.row.now.items i result }
     {
         let entry = self.entry(coded.q, coded.parts, coded.pos, i);
-        if entry.code == coded.code {
-            self.coded_placement(coded, part, prepared, i, entry)
-        } else {
-            Placement::Outside
+        if entry.code != coded.code {
+            return Placement::Outside;
         }
+        if entry.span.is_none() {
+            let (part, row) = (coded.parts.get(i), coded.row.as_slice());
+            if let Some(placement) = entry.simple_box.placement(part, coded.pos, row) {
+                return placement;
+            }
+        }
+        self.asked_placement(coded, prepared, i, entry)
     }
 }
 
-// Whether a row meets these conditions.
+// Where a row stands in a part by the ranges of the dims alone. It is not inlined: few boxes have more than two dims.
+#[cold]
+#[inline(never)]
+fn placement_by_dims(
+    q: &Query,
+    part: &PartPlan,
+    prepared: &Prepared,
+    pos: u8,
+    row: &Row,
+) -> Placement
+    requires here { pos < length part.now.streams.items }
+    requires prepared { IsPrepared (pairs q.now) part.now prepared.now }
+    ensures { IsInBox part.now pos row.now.items result }
+{
+    placement_by_ranges(q, part, prepared, pos, row)
+}
+
+// Whether a row meets these conditions. It is not inlined: few parts ask what their codes do not tell.
+#[cold]
+#[inline(never)]
 fn are_met(row: &[i64], conditions: &[LocalCondition]) -> bool
     ensures { result ≡ list_all (meets_local (alone (by_column row.now))) conditions.now }
 {

@@ -20,7 +20,7 @@ use exec_synopsis::Prepared;
 use plan_implied_signs::says_condition;
 use sem_query::{
     Attr, Element, LocalCondition, Op, Pair, PartPlan, PartPlans, Query, Sign, is_same,
-    is_same_element, is_within,
+    is_same_element, is_same_pair, is_same_sign, is_within,
 };
 use std::alloc::{AllocError, Global};
 
@@ -31,11 +31,12 @@ pub struct Remaining {
     pub spans: Vec<Span>,
 }
 
-// Pairs, and a sign of each.
+// Pairs, and a sign of each. Hints tell of a pair of the query where it may stand among these.
 #[derive(Clone, Copy)]
 struct Signed<'a> {
     pairs: &'a [Pair],
     signs: &'a [Sign],
+    hints: &'a [u8],
 }
 
 // Whether a condition asks for this sign of a pair, and for nothing else.
@@ -144,14 +145,6 @@ fn of_test(place: u8, pair: Option<Pair>, sign: Option<Sign>) -> Option<LocalCon
     }
 }
 
-// The same of the pair of a number.
-fn of_number(place: u8, pairs: &[Pair], signs: &[Sign], i: u8) -> Option<LocalCondition>
-    ensures { (v : ℕ → ℤ) → meets_any v result ≡ keeps_pair place (alone v) (slice_get pairs.now i) (slice_get signs.now i) }
-{
-    let i = usize::from(i);
-    of_test(place, pairs.get(i).copied(), signs.get(i).copied())
-}
-
 // A condition, where it is of the stream at a place.
 fn of_condition(place: u8, condition: LocalCondition) -> Option<LocalCondition>
     ensures { (v : ℕ → ℤ) → meets_any v result ≡ (not (is_within place condition.left condition.right) || meets_local (alone v) condition) }
@@ -196,6 +189,48 @@ fn ask(
     }
 }
 
+// Whether the pair at a place of these has this sign, and is the same as another.
+#[tactic(auto, using(crate::proofs::RemainingLaws::has_sign))]
+fn is_signed(signed: &Signed<'_>, i: usize, pair: Pair, wanted: Sign) -> bool
+    requires { length signed.now.signs.now ≡ length signed.now.pairs.now }
+    ensures { result ≡ true → (v : ℕ → ℤ) → signs_at v signed.now.pairs.now ≡ signed.now.signs.now → sign_eq (sign_at (alone v) pair) wanted ≡ true }
+{
+    i < signed.pairs.len()
+        && is_same_pair(signed.pairs[i], pair)
+        && is_same_sign(signed.signs[i], wanted)
+}
+
+// Whether what is asked of a pair by its sign is of another stream, or the pair at the hinted place says it.
+fn is_told(signed: &Signed<'_>, hint: usize, place: u8, pair: Pair, wanted: Sign) -> bool
+    requires { length signed.now.signs.now ≡ length signed.now.pairs.now }
+    ensures { result ≡ true → (v : ℕ → ℤ) → signs_at v signed.now.pairs.now ≡ signed.now.signs.now → (not (is_within place pair.left pair.right) || sign_eq (sign_at (alone v) pair) wanted) ≡ true }
+{
+    !is_within(usize::from(place), pair) || is_signed(signed, hint, pair, wanted)
+}
+
+// Adds what the pair of a number asks of a row by its sign, where the signs of some pairs do not say it. An error says that memory was not found.
+fn ask_number(
+    list: &mut Vec<LocalCondition>,
+    signed: &Signed<'_>,
+    place: u8,
+    pairs: &[Pair],
+    signs: &[Sign],
+    i: u8,
+) -> Result<(), AllocError>
+    requires { length signed.now.signs.now ≡ length signed.now.pairs.now }
+    ensures { OnOk result ((v : ℕ → ℤ) → signs_at v signed.now.pairs.now ≡ signed.now.signs.now → list_all (meets_local (alone v)) list.new.items ≡ (list_all (meets_local (alone v)) list.old.items && keeps_pair place (alone v) (slice_get pairs.now i) (slice_get signs.now i))) }
+{
+    let i = usize::from(i);
+    let (pair, sign) = (pairs.get(i).copied(), signs.get(i).copied());
+    let hint = signed.hints.get(i).copied().unwrap_or(u8::MAX);
+    if let (Some(pair), Some(sign)) = (pair, sign) {
+        if is_told(signed, usize::from(hint), place, pair, sign) {
+            return Ok(());
+        }
+    }
+    ask(list, signed, of_test(place, pair, sign))
+}
+
 // What a part asks of a row that has these signs at these pairs, beside the ranges of its dims. An error says that memory was not found.
 fn asked_beside(
     alloc: Global,
@@ -211,7 +246,7 @@ fn asked_beside(
     let mut list: Vec<LocalCondition> = Vec::new(alloc);
     let (pairs, signs) = (q.pairs().as_slice(), part.signs.as_slice());
     'tests: for test in prepared.tests() {
-        ask(&mut list, signed, of_number(place, pairs, signs, *test))?;
+        ask_number(&mut list, signed, place, pairs, signs, *test)?;
     }
     'asked: for condition in prepared.asked() {
         ask(&mut list, signed, of_condition(place, *condition))?;
@@ -250,6 +285,7 @@ fn signed_at<'a>(q: &Query, parts: &PartPlans, place: u8, tested: &'a Tested, i:
     Signed {
         pairs: tested.pairs.as_slice(),
         signs: tested.signs[i as usize].as_slice(),
+        hints: tested.hints.as_slice(),
     }
 }
 

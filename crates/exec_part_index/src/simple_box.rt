@@ -1,24 +1,39 @@
-//! The box of a part at a place of FROM as a row is asked of it, where it has at most one dim.
+//! The box of a part at a place of FROM as a row is asked of it, where it has at most two dims.
 ghost use Rattle.std.specs.Prelude.{IfSome};
 ghost use Rattle.sem_query.specs.Meaning.{by_column};
 ghost use Rattle.exec_synopsis.specs.Axes.{IsAbove, IsShort, IsBoxLayout};
-ghost use Rattle.exec_part_index.specs.SimpleBox.{IsSimpleBox, IsOneDimBox, IsInBox, axis_in};
+ghost use Rattle.exec_part_index.specs.SimpleBox.{IsSimpleBox, IsOneDimBox, IsTwoDimBox, IsInBox, axis_in};
 
 use crate::shift::CellAt;
 use exec_synopsis::{BoxLayout, Placement};
 use sem_query::{Kind, PartPlan, value_at};
 
-/// A box of one dim: its least value, how many values there are, the first cell, the column, and what the cells keep of rows.
+/// The range of a dim: its least value, how many values there are, and the column.
 #[derive(Clone, Copy, Debug, PartialEq, Eq, Drop)]
-pub struct OneDimBox {
+pub struct DimRange {
     pub lo: i64,
     pub size: u32,
-    pub base: u32,
     pub column: u8,
+}
+
+/// A box of one dim: its range, the first cell, and what the cells keep of rows.
+#[derive(Clone, Copy, Debug, PartialEq, Eq, Drop)]
+pub struct OneDimBox {
+    pub range: DimRange,
+    pub base: u32,
     pub kind: Kind,
 }
 
-/// A box of at most one dim.
+/// A box of two dims: their ranges, the first cell, and what the cells keep of rows.
+#[derive(Clone, Copy, Debug, PartialEq, Eq, Drop)]
+pub struct TwoDimBox {
+    pub first: DimRange,
+    pub second: DimRange,
+    pub base: u32,
+    pub kind: Kind,
+}
+
+/// A box of at most two dims.
 #[derive(Clone, Copy, Debug, PartialEq, Eq, Drop)]
 pub enum SimpleBox {
     /// The box has more dims, or the numbers of its cells have no 32 bits.
@@ -27,9 +42,11 @@ pub enum SimpleBox {
     Cell(CellAt),
     /// There is one dim.
     OneDim(OneDimBox),
+    /// There are two dims.
+    TwoDim(TwoDimBox),
 }
 
-impl OneDimBox {
+impl DimRange {
     // How far the value of the dim is above its least one, where it is in range.
     fn offset_in(self, row: &[i64]) -> Option<u32>
         requires { IsShort (axis_in self) }
@@ -42,7 +59,9 @@ impl OneDimBox {
             None
         }
     }
+}
 
+impl OneDimBox {
     // Where a row stands in the part.
     fn placement(self, part: &PartPlan, pos: u8, row: &[i64]) -> Placement
         requires { IsOneDimBox part.now pos self }
@@ -50,7 +69,7 @@ impl OneDimBox {
     {
         // Named for the proof alone: the contract speaks of them.
         let (_part, _pos) = (part, pos);
-        match self.offset_in(row) {
+        match self.range.offset_in(row) {
             Some(offset) => Placement::Cell {
                 number: self.base + offset,
                 kind: self.kind,
@@ -60,17 +79,51 @@ impl OneDimBox {
     }
 }
 
+impl TwoDimBox {
+    // Where a row stands in the part. It is inlined: to call it costs as much as to do it.
+    #[inline(always)]
+    fn placement(&self, part: &PartPlan, pos: u8, row: &[i64]) -> Placement
+        requires { IsTwoDimBox part.now pos self.now }
+        ensures { IsInBox part.now pos row.now result }
+    {
+        // Named for the proof alone: the contract speaks of them.
+        let (_part, _pos) = (part, pos);
+        let Some(line) = self.first.offset_in(row) else {
+            return Placement::Outside;
+        };
+        match self.second.offset_in(row) {
+            Some(offset) => Placement::Cell {
+                number: self.base + (line * self.second.size + offset),
+                kind: self.kind,
+            },
+            None => Placement::Outside,
+        }
+    }
+}
+
 impl SimpleBox {
-    /// Returns where a row stands by the ranges of the dims, where the box is listed.
+    /// Returns where a row stands by the ranges of the dims, where the box has at most one.
     #[inline(always)]
     pub fn placement(self, part: &PartPlan, pos: u8, row: &[i64]) -> Option<Placement>
         requires { IsSimpleBox part.now pos self }
         ensures { IfSome result (λ placement. IsInBox part.now pos row.now placement) }
     {
         match self {
-            SimpleBox::Unlisted => None,
             SimpleBox::Cell(cell) => Some(cell.placement()),
             SimpleBox::OneDim(single) => Some(single.placement(part, pos, row)),
+            SimpleBox::Unlisted | SimpleBox::TwoDim(_) => None,
+        }
+    }
+
+    /// Returns where a row stands by the ranges of the dims, where the box is listed.
+    #[inline(always)]
+    pub fn listed_placement(&self, part: &PartPlan, pos: u8, row: &[i64]) -> Option<Placement>
+        requires { IsSimpleBox part.now pos self.now }
+        ensures { IfSome result (λ placement. IsInBox part.now pos row.now placement) }
+    {
+        match self {
+            SimpleBox::TwoDim(double) => Some(double.placement(part, pos, row)),
+            _ => self.placement(part, pos, row),
         }
     }
 }
@@ -88,10 +141,26 @@ pub fn simple_box_of(part: &PartPlan, place: u8, listed: &BoxLayout) -> SimpleBo
             kind: listed.kind,
         }),
         [axis] => SimpleBox::OneDim(OneDimBox {
-            lo: axis.lo,
-            size: axis.size,
+            range: DimRange {
+                lo: axis.lo,
+                size: axis.size,
+                column: axis.column,
+            },
             base: listed.base,
-            column: axis.column,
+            kind: listed.kind,
+        }),
+        [first, second] => SimpleBox::TwoDim(TwoDimBox {
+            first: DimRange {
+                lo: first.lo,
+                size: first.size,
+                column: first.column,
+            },
+            second: DimRange {
+                lo: second.lo,
+                size: second.size,
+                column: second.column,
+            },
+            base: listed.base,
             kind: listed.kind,
         }),
         _ => SimpleBox::Unlisted,

@@ -15,11 +15,12 @@ use sem_query::{
 };
 use std::alloc::{AllocError, Global};
 
-/// The pairs that are tested at a place, and the sign that each part shows at each of them.
+/// The pairs that are tested at a place, and the sign that each part shows at each of them. Hints tell of a pair of the query where it may stand among these.
 #[derive(Drop)]
 pub struct Tested {
     pub pairs: Vec<Pair>,
     pub signs: Vec<Signs>,
+    pub hints: Vec<u8>,
 }
 
 // A pair at which each part shows one sign, and this sign where it is the same of all: if not, it tells parts from each other.
@@ -397,6 +398,21 @@ fn pairs_of(alloc: Global, tests: &[Test]) -> Result<Vec<Pair>, AllocError>
     Ok(pairs)
 }
 
+// For each pair of the query the place of its test, where there is one.
+fn hints_of(alloc: Global, q: &Query, tests: &[Test]) -> Result<Vec<u8>, AllocError>
+    requires { length tests.now ≤ 20 }
+{
+    let mut hints: Vec<u8> = vec![in alloc; u8::MAX; q.pairs().as_slice().len()]?;
+    'tests: for (i, test) in tests.iter().enumerate() {
+        if let Some(number) = test.number {
+            if let Some(hint) = hints.get_mut(usize::from(number)) {
+                *hint = i as u8;
+            }
+        }
+    }
+    Ok(hints)
+}
+
 // For each part no signs.
 fn no_signs(
     alloc: Global,
@@ -425,6 +441,7 @@ fn untested(alloc: Global, q: &Query, parts: &PartPlans, place: u8) -> Result<Te
     Ok(Tested {
         pairs: Vec::new(alloc),
         signs,
+        hints: Vec::new(alloc),
     })
 }
 
@@ -442,8 +459,13 @@ fn tested_by(
     ensures few { IfOk result (λ t. length t.pairs.items ≤ 20) }
 {
     let pairs = pairs_of(alloc, tests)?;
+    let hints = hints_of(alloc, q, tests)?;
     match all_signs(alloc, q, parts, place, tests)? {
-        Some(signs) => Ok(Tested { pairs, signs }),
+        Some(signs) => Ok(Tested {
+            pairs,
+            signs,
+            hints,
+        }),
         None => untested(alloc, q, parts, place),
     }
 }

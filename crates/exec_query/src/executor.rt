@@ -6,8 +6,8 @@ ghost use Rattle.sem_query.specs.Domains.{RowKeeps};
 ghost use Rattle.sem_query.specs.Numbers.{pages_of};
 ghost use Rattle.sem_query.specs.Sharing.{sizes_in};
 ghost use Rattle.sem_query.specs.Bases.{Base, first_base};
-ghost use Rattle.io_streams.specs.Sink.{Writes};
 ghost use Rattle.exec_pool.specs.Extents.{PoolValue, cells_of, with_cells, IsLive, IsGivenBack};
+ghost use Rattle.exec_answer_lines.specs.Gathering.{Gathers};
 ghost use Rattle.exec_answer_table.specs.Entries.{with_entries, waiting_entries, settled};
 ghost use Rattle.exec_saturation.specs.declared.saturation.Saturation.TheVariants as saturation;
 ghost use Rattle.exec_saturation.specs.Known.{none_yet};
@@ -26,6 +26,7 @@ use crate::join::Scratch;
 use crate::output::put_waiting;
 use crate::row::{Arrived, QueryAt, apply_row, meet_by_cells};
 use crate::two_cells::answer_anew;
+use exec_answer_lines::AnswerLines;
 use exec_answer_table::Answers;
 use exec_filter::{Prefilter, prefilter_of};
 use exec_part_index::{PreparedPlan, prepare_all};
@@ -39,6 +40,13 @@ use sql_text::Name;
 use std::alloc::{AllocError, Global};
 use std::marker::Model;
 use std::sync::ledger::Ledger;
+
+/// What is said of a row to a query: whether it lies within the query's box, and whether it concerns no other query.
+#[derive(Clone, Copy)]
+pub struct RowHint {
+    pub is_within: bool,
+    pub is_alone: bool,
+}
 
 /// A live query. Like its extent it cannot be dropped: `close` spends it.
 pub struct Executor {
@@ -156,7 +164,11 @@ impl Executor {
         ensures steps { KeepsToWork self.old (arrival stream row.now.items) steps.old steps.new }
     {
         // Whether something waits is not asked here.
-        let _waits = self.apply(false, pool, stream, row, steps);
+        let hint = RowHint {
+            is_within: false,
+            is_alone: true,
+        };
+        let _waits = self.apply(hint, pool, stream, row, steps);
     }
 
     // Whether a row is refused, and nothing waits that would have to be given up: it is but counted.
@@ -175,7 +187,7 @@ impl Executor {
     #[inline(always)]
     pub fn apply<L: Ledger>(
         &mut self,
-        is_within: bool,
+        hint: RowHint,
         pool: &mut Pool,
         stream: u8,
         row: &Row,
@@ -190,10 +202,11 @@ impl Executor {
         match &self.access {
             Access::Filter(filter) => {
                 self.given += 1;
-                plain_filter_row(&self.prefilter, filter, stream, row, &mut self.table)
+                let (prefilter, table) = (&self.prefilter, &mut self.table);
+                plain_filter_row(hint.is_alone, prefilter, filter, stream, row, table)
             }
-            Access::PointLookup(_) => self.apply_by_cells(is_within, pool, stream, row, steps),
-            Access::Plan => self.apply_by_plan(is_within, pool, stream, row, steps),
+            Access::PointLookup(_) => self.apply_by_cells(hint.is_within, pool, stream, row, steps),
+            Access::Plan => self.apply_by_plan(hint.is_within, pool, stream, row, steps),
         }
     }
 
@@ -332,10 +345,20 @@ impl Executor {
         waits_in(&self.table)
     }
 
-    /// Writes a line for each answer that waits, in ascending order. Then nothing waits, also after a fault; all else is as
+    /// Gathers a line for each answer that waits, in ascending order, behind what is gathered, of which some may be written. Where it is said
+    /// that no other query answers the row, and nothing is gathered, they are written. Then nothing waits, also after a fault; all else is as
     /// before, with DISTINCT the tuples too, so that the executor stands for what it stood for, a history or a base.
-    pub fn emit<O: Sink>(&mut self, name: &Name, out: &mut O) -> Result<(), WriteFault>
-        ensures writes { Writes result (O.seen out.old) (O.seen out.new) (answer_lines name.now (waiting_in self.old)) }
+    #[inline(always)]
+    pub fn emit<O: Sink>(
+        &mut self,
+        is_alone: bool,
+        name: &Name,
+        lines: &mut AnswerLines,
+        out: &mut O,
+    ) -> Result<(), WriteFault>
+        requires { is_alone ≡ true → lines.old ≡ [] }
+        ensures gathers { Gathers result (O.seen out.old) (O.seen out.new) lines.old lines.new (answer_lines name.now (waiting_in self.old)) }
+        ensures written { is_alone ≡ true → lines.new ≡ [] }
         ensures none { waiting_in self.new ≡ [] }
         ensures same { self.new ≡ with_given self.old self.old.given (settled self.old.table.entries) }
         ensures tuples { tuples_in self.new ≡ tuples_in self.old }
@@ -344,7 +367,7 @@ impl Executor {
         ensures history { (pool : PoolValue) (history : List Arrival) → StandsFor self.old pool history → StandsFor self.new pool history }
         ensures bases { (pool : PoolValue) (base : Base) (history : List Arrival) → StandsFrom self.old pool base history → StandsFrom self.new pool base history }
     {
-        let written = put_waiting(&self.table, name, &mut self.scratch.line, out);
+        let written = put_waiting(&self.table, is_alone, name, lines, out);
         self.give_up();
         written
     }

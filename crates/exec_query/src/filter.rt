@@ -1,5 +1,6 @@
 //! What a filter answers to a row, by that row alone.
 ghost use Rattle.std.specs.Prelude.{◌≡◌, ◌&&◌, ◌==◌, [], ◌∷◌, ◌<◌, length, map, slice_index_or, if◌then◌else◌};
+ghost use Rattle.std.specs.List.{list_all};
 ghost use Rattle.sem_query.specs.Assignment.{meets, holds};
 ghost use Rattle.sem_query.specs.Meaning.{assignment_of, by_column};
 ghost use Rattle.exec_filter.specs.PlainFilter.{plain_filter_meets};
@@ -46,6 +47,17 @@ fn leave_none(table: &mut Answers)
     table.clear();
 }
 
+// Whether a row meets what a filter asks of rows that pass. Most often nothing is asked, and this is seen at less cost than asking has.
+#[inline(always)]
+fn meets_unimplied(plain_filter: &PlainFilter, row: &[i64]) -> bool
+    ensures { result ≡ list_all (meets (assignment_of (row.now ∷ []))) plain_filter.now.unimplied.items }
+{
+    if plain_filter.unimplied.is_empty() {
+        return true;
+    }
+    filter_all_meet(row, plain_filter.unimplied.as_slice())
+}
+
 // Whether a row is answered by a filter that asks this of rows that pass.
 #[inline(always)]
 fn plain_filter_meets(
@@ -57,14 +69,12 @@ fn plain_filter_meets(
     requires { prefilter.now.others.items ≡ [] }
     ensures { result ≡ plain_filter_meets prefilter.now plain_filter.now (arrival stream row.now.items) }
 {
-    prefilter.passes_alone(stream, row)
-        && filter_all_meet(row.as_slice(), plain_filter.unimplied.as_slice())
+    prefilter.passes_alone(stream, row) && meets_unimplied(plain_filter, row.as_slice())
 }
 
-/// Leaves in a table what a filter without DISTINCT answers to a row, and returns whether it answers it. It is not inlined, so that rows of
-/// joins pay nothing for it.
-#[inline(never)]
-pub fn plain_filter_row(
+// Leaves in a table what a filter without DISTINCT answers to a row, and returns whether it answers it.
+#[inline(always)]
+fn put_answer(
     prefilter: &Prefilter,
     plain_filter: &PlainFilter,
     stream: u8,
@@ -83,6 +93,47 @@ pub fn plain_filter_row(
     }
     table.set_only(plain_filter.selected.as_slice(), row.as_slice());
     true
+}
+
+// The same. It is not inlined, so that rows of joins pay nothing for it.
+#[inline(never)]
+fn put_answer_apart(
+    prefilter: &Prefilter,
+    plain_filter: &PlainFilter,
+    stream: u8,
+    row: &Row,
+    table: &mut Answers,
+) -> bool
+    requires width { length plain_filter.now.selected.items ≡ table.old.width }
+    requires room { 0 < table.old.capacity }
+    requires single { prefilter.now.others.items ≡ [] }
+    ensures meets { result ≡ plain_filter_meets prefilter.now plain_filter.now (arrival stream row.now.items) }
+    ensures table { table.new ≡ with_entries table.old (if result then entry_of (map (by_column row.now.items) plain_filter.now.selected.items) 1 ∷ [] else []) }
+{
+    put_answer(prefilter, plain_filter, stream, row, table)
+}
+
+/// Leaves in a table what a filter without DISTINCT answers to a row, and returns whether it answers it. Whether the row concerns no other
+/// query decides on the time alone.
+#[inline(always)]
+pub fn plain_filter_row(
+    is_alone: bool,
+    prefilter: &Prefilter,
+    plain_filter: &PlainFilter,
+    stream: u8,
+    row: &Row,
+    table: &mut Answers,
+) -> bool
+    requires width { length plain_filter.now.selected.items ≡ table.old.width }
+    requires room { 0 < table.old.capacity }
+    requires single { prefilter.now.others.items ≡ [] }
+    ensures meets { result ≡ plain_filter_meets prefilter.now plain_filter.now (arrival stream row.now.items) }
+    ensures table { table.new ≡ with_entries table.old (if result then entry_of (map (by_column row.now.items) plain_filter.now.selected.items) 1 ∷ [] else []) }
+{
+    if is_alone {
+        return put_answer_apart(prefilter, plain_filter, stream, row, table);
+    }
+    put_answer(prefilter, plain_filter, stream, row, table)
 }
 
 /// Takes up what a filter answers to a row. It is not inlined, so that rows of joins pay nothing for it.

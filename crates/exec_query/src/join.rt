@@ -22,7 +22,6 @@ ghost use Rattle.exec_point_lookup.specs.Known.{IsDetermined};
 ghost use Rattle.exec_query.specs.Reads.{most_reads};
 ghost use Rattle.exec_part_index.specs.Leaving.{reads_of, LeavesCell};
 
-use exec_answer_lines::LINE_ROOM;
 use exec_answer_table::Answers;
 use exec_join::{FirstLook, Probe, ProbeScratch, first_look, is_nothing, look_before_walk};
 use exec_point_lookup::determined_tuple;
@@ -70,7 +69,6 @@ impl Takes {
 pub struct Scratch {
     pub room: ProbeScratch,
     pub tuple: Tuple,
-    pub line: [u8; LINE_ROOM],
 }
 
 impl Scratch {
@@ -79,7 +77,6 @@ impl Scratch {
         Scratch {
             room: ProbeScratch::default(),
             tuple: Tuple::new(),
-            line: [0; LINE_ROOM],
         }
     }
 }

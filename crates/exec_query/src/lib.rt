@@ -24,4 +24,4 @@ mod route;
 mod row;
 mod two_cells;
 
-pub use executor::Executor;
+pub use executor::{Executor, RowHint};

@@ -76,10 +76,9 @@ fn placement_in(
     requires told { IfSome told (λ cell. StandsAt coded.now.q.now coded.now.parts.now coded.now.pos coded.now.row.now.items i cell) }
     ensures { IsPlaced coded.now.q.now coded.now.parts.now coded.now.pos coded.now.row.now.items i result }
 {
-    let (q, parts) = (coded.q, coded.parts);
     match told {
         Some(cell) => cell.placement(),
-        None => part_index.placement_of(coded, parts.get(i), prepared.part(q, parts, i), i),
+        None => part_index.placement_of(coded, prepared, i),
     }
 }
 
@@ -112,13 +111,10 @@ fn apply_along<L: Ledger>(
     let mut same = true;
     let mut told: Option<CellAt> = None;
     'parts: while i < parts.len() {
-        let placement = placement_in(part_index, told, coded, led.prepared, i);
+        let placement = placement_in(part_index, told.take(), coded, led.prepared, i);
         let passes = is_known(led.known, led.each, same);
         match reach(pool, led, passes, i, placement, steps) {
-            Reached::Unasked(next) => {
-                told = None;
-                i = next;
-            }
+            Reached::Unasked(next) => i = next,
             Reached::Part(met) => {
                 let plan = parts.get(met.i);
                 if met.placement.is_inside() {

@@ -1,5 +1,5 @@
 -- The live queries are written one after the other.
-use Rattle.std.proofs.Common.{◌≡◌, ℕ, suc, ◌<◌, inl, inr, List, [], ◌∷◌, ◌++◌, length, take, append-nil, refl, sym, ap, ◌∙◌, subst, arith, slice_index_or, slice_set}
+use Rattle.std.proofs.Common.{◌≡◌, ℕ, suc, ◌<◌, inl, inr, List, [], ◌∷◌, ◌++◌, length, take, drop, take-append-drop, append-nil, refl, sym, ap, ◌∙◌, subst, arith, slice_index_or, slice_set}
 use Rattle.std.proofs.lemmas.Bool.{cases_eq}
 use Rattle.std.proofs.lemmas.List.{length-set, get_or-set_same, get_or-set_other, get_or_default}
 use Rattle.std.specs.Prelude.{⊤}
@@ -9,10 +9,12 @@ use Rattle.std.specs.declared.result.Result.TheVariants.{Ok, Err}
 use Rattle.std.proofs.Math.Seq.{take-suc}
 use Rattle.std.proofs.lemmas.Grind.{flat_map-append}
 use Rattle.io_streams.specs.Sink.{SinkState, Writes, Wrote, BrokeOff}
-use Rattle.io_streams.proofs.Writing.{Wrote-trans, BrokeOff-at}
+use Rattle.io_streams.proofs.Writing.{BrokeOff-stop}
+use Rattle.exec_answer_lines.specs.Gathering.{Gathered}
+use Rattle.exec_answer_lines.proofs.Gathering.{gathered_more, gathered_broke, gathered_alone, gathered_written}
 use Rattle.exec_registry.specs.Live.{Live}
 use Rattle.exec_registry.specs.Registry.{waiting_text}
-use Rattle.exec_registry.specs.Written.{WroteOne, WroteFirst, WritesNext, WritesSo}
+use Rattle.exec_registry.specs.Written.{WroteOne, WroteFirst, WritesNext, GathersNext, GatheredSo}
 
 pub wrote_none : (live : List Live) → WroteFirst 0 live live
 wrote_none live = record { size = refl; done = λ i l a b. absurd (omega arith); others = λ i l a b. refl }
@@ -36,17 +38,34 @@ text_more : (xs : List Live) (n : ℕ) (d : Live) → n < length xs → flat_map
 text_more xs n d within =
     ap (flat_map waiting_text) (take-suc xs n d within) ∙ flat_map-append waiting_text (take n xs) (slice_index_or xs n d ∷ []) ∙ ap (λ t. flat_map waiting_text (take n xs) ++ t) (append-nil (waiting_text (slice_index_or xs n d)))
 
--- one more was written, or given up
-pub writes_more : {E : Type 0} (written result : Result ⊤ E) (xs : List Live) (n : ℕ) (d : Live) (a b c : SinkState) → n < length xs
-    → WritesSo written a b (flat_map waiting_text (take n xs)) (flat_map waiting_text xs)
-    → WritesNext written result b c (waiting_text (slice_index_or xs n d))
-    → WritesSo result a c (flat_map waiting_text (take (suc n) xs)) (flat_map waiting_text xs)
-writes_more (Ok x) (Ok y) xs n d a b c within so next = rw (text_more xs n d within) (Wrote-trans a b c _ _ so next)
-writes_more (Ok x) (Err e) xs n d a b c within so next = BrokeOff-at waiting_text xs n d a b c within so next
-writes_more {E} (Err e) result xs n d a b c within so next =
-    subst (λ (r : Result ⊤ E). WritesSo r a c (flat_map waiting_text (take (suc n) xs)) (flat_map waiting_text xs)) (sym next.0)
+-- the text of all, with that of one in the middle
+text_at : (xs : List Live) (n : ℕ) (d : Live) → n < length xs → (flat_map waiting_text (take n xs) ++ waiting_text (slice_index_or xs n d)) ++ flat_map waiting_text (drop (suc n) xs) ≡ flat_map waiting_text xs
+text_at xs n d within =
+    ap (λ t. t ++ flat_map waiting_text (drop (suc n) xs)) (sym (text_more xs n d within))
+    ∙ sym (flat_map-append waiting_text (take (suc n) xs) (drop (suc n) xs))
+    ∙ ap (flat_map waiting_text) (take-append-drop (suc n) xs)
+
+-- one more was gathered, or given up
+pub gathered_next : {E : Type 0} (gathered result : Result ⊤ E) (xs : List Live) (n : ℕ) (d : Live) (a b c : SinkState) (now later : List ℕ) → n < length xs
+    → GatheredSo gathered a b now (flat_map waiting_text (take n xs)) (flat_map waiting_text xs)
+    → GathersNext gathered result b c now later (waiting_text (slice_index_or xs n d))
+    → GatheredSo result a c later (flat_map waiting_text (take (suc n) xs)) (flat_map waiting_text xs)
+gathered_next (Ok x) (Ok y) xs n d a b c now later within so next = rw (text_more xs n d within) (gathered_more a b c [] now later _ _ so next)
+gathered_next (Ok x) (Err e) xs n d a b c now later within so next =
+    subst (BrokeOff a c) (text_at xs n d within) (BrokeOff-stop a c _ _ (gathered_broke a b c [] now _ _ so next))
+gathered_next {E} (Err e) result xs n d a b c now later within so next =
+    subst (λ (r : Result ⊤ E). GatheredSo r a c later (flat_map waiting_text (take (suc n) xs)) (flat_map waiting_text xs)) (sym next.0)
     (subst (λ s. BrokeOff a s (flat_map waiting_text xs)) (sym next.1) so)
 
-pub writes_all : {E : Type 0} (written : Result ⊤ E) (a c : SinkState) (front text : List ℕ) → front ≡ text → WritesSo written a c front text → Writes written a c text
-writes_all (Ok x) a c front text e so = subst (λ t. Wrote a c t) e so
-writes_all (Err x) a c front text e so = so
+-- all were gathered, or the text broke off; then what is gathered was written
+pub gathered_all : {E : Type 0} (gathered result : Result ⊤ E) (a b c : SinkState) (now front text : List ℕ) → front ≡ text
+    → GatheredSo gathered a b now front text → WritesNext gathered result b c now → Writes result a c text
+gathered_all (Ok x) result a b c now front text e so next = subst (Writes result a c) e (gathered_written result a b c now front so next)
+gathered_all {E} (Err x) result a b c now front text e so next =
+    subst (λ (r : Result ⊤ E). Writes r a c text) (sym next.0) (subst (λ s. BrokeOff a s text) (sym next.1) so)
+
+-- where nothing is gathered, all were written
+pub gathered_none_left : {E : Type 0} (result : Result ⊤ E) (a c : SinkState) (now front text : List ℕ) → now ≡ [] → front ≡ text
+    → GatheredSo result a c now front text → Writes result a c text
+gathered_none_left {E} (Ok x) a c now front text none e so = subst (Wrote a c) e (gathered_alone {E = E} (Ok x) a c front (subst (λ (t : List ℕ). Gathered a c [] t front) none so))
+gathered_none_left (Err x) a c now front text none e so = so

@@ -2,7 +2,8 @@
 use Rattle.std.specs.Prelude.{◌≡◌, ℕ, ◌<◌, ◌≤◌, List, [], length, slice_index_or, slice_set, ⊤}
 use Rattle.std.specs.declared.result.Result.{Result}
 use Rattle.std.specs.declared.result.Result.TheVariants.{Ok, Err}
-use Rattle.io_streams.specs.Sink.{SinkState, Writes, Wrote, BrokeOff}
+use Rattle.io_streams.specs.Sink.{SinkState, Writes, BrokeOff}
+use Rattle.exec_answer_lines.specs.Gathering.{Gathered, Gathers}
 use Rattle.exec_answer_table.specs.Entries.{settled}
 use Rattle.sem_query.specs.Meaning.{Arrival}
 use Rattle.sem_query.specs.Bases.{Base}
@@ -38,7 +39,12 @@ abbrev pub WritesNext : {E : Type 0} → Result ⊤ E → Result ⊤ E → SinkS
 WritesNext (Ok x) result before after text = Writes result before after text
 WritesNext (Err e) result before after text = (result ≡ Err e) × (after ≡ before)
 
--- a front of a text was written so far, or the text broke off
-abbrev pub WritesSo : {E : Type 0} → Result ⊤ E → SinkState → SinkState → List ℕ → List ℕ → Type 0
-WritesSo (Ok x) before after front text = Wrote before after front
-WritesSo (Err e) before after front text = BrokeOff before after text
+-- a text was gathered after what went so; after a fault nothing is
+abbrev pub GathersNext : {E : Type 0} → Result ⊤ E → Result ⊤ E → SinkState → SinkState → List ℕ → List ℕ → List ℕ → Type 0
+GathersNext (Ok x) result before after held now text = Gathers result before after held now text
+GathersNext (Err e) result before after held now text = (result ≡ Err e) × (after ≡ before)
+
+-- a front of a text was gathered so far, or the text broke off
+abbrev pub GatheredSo : {E : Type 0} → Result ⊤ E → SinkState → SinkState → List ℕ → List ℕ → List ℕ → Type 0
+GatheredSo (Ok x) before after now front text = Gathered before after [] now front
+GatheredSo (Err e) before after now front text = BrokeOff before after text

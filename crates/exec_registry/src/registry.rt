@@ -23,6 +23,7 @@ use crate::register::{Planned, admit, drop_at};
 use crate::taking::apply_to_all;
 use crate::verdict::{Verdict, judge};
 use crate::writing::write_all;
+use exec_answer_lines::AnswerLines;
 use exec_pool::{Pool, Steps};
 use exec_query::Executor;
 use exec_query_index::Concerns;
@@ -41,6 +42,7 @@ pub struct Registry {
     live: Queries,
     concerned: Concerned,
     waiting: u64,
+    lines: AnswerLines,
 }
 
 impl Model for Registry {
@@ -91,6 +93,7 @@ impl Registry {
             live,
             concerned,
             waiting: 0,
+            lines: AnswerLines::new(),
         })
     }
 
@@ -272,7 +275,7 @@ impl Registry {
     {
         let waiting = self.waiting;
         self.waiting = 0;
-        write_all(&mut self.live, waiting, out)
+        write_all(&mut self.live, waiting, &mut self.lines, out)
     }
 
     /// Takes the live query of a name out of the live ones, the first that has it. Its pages are free, and the others are as
@@ -364,6 +367,7 @@ impl Registry {
             live,
             concerned: _concerned,
             waiting: _,
+            lines: _lines,
         } = self;
         close_all(pool, live);
     }

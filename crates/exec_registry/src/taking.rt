@@ -12,18 +12,18 @@ ghost use Rattle.exec_registry.specs.Waiting.{AreQuiet};
 use crate::queries::{Queries, Runner};
 use crate::waiting::noted;
 use exec_pool::{Pool, Steps};
-use exec_query::Executor;
+use exec_query::{Executor, RowHint};
 use exec_query_index::{Concerns, has_bit, lowest_bit, without_bit};
 use sem_query::Row;
 use std::sync::ledger::Ledger;
 
-// Gives a row to what runs a live query, whatever its name. Where it is within, the prefilter need not be asked.
+// Gives a row to what runs a live query, whatever its name. What is said of it decides on the time alone.
 #[inline(always)]
 #[tactic(auto, using(crate::proofs::InTurn::took_one))]
 fn apply_to_one<L: Ledger>(
     pool: &mut Pool,
     executor: &mut Executor,
-    is_within: bool,
+    hint: RowHint,
     stream: u8,
     row: &Row,
     steps: &mut Steps<L>,
@@ -35,7 +35,7 @@ fn apply_to_one<L: Ledger>(
     ensures reads { steps.new.reads ≤ steps.old.reads + plan_reads executor.old.plan }
     ensures writes { steps.new.writes ≤ steps.old.writes + plan_writes executor.old.plan }
 {
-    let waits = executor.apply(is_within, pool, stream, row, steps);
+    let waits = executor.apply(hint, pool, stream, row, steps);
     // Read for the proof alone: the call tells what is true of what runs the query.
     let _sound = executor.plan();
     waits
@@ -46,7 +46,7 @@ fn apply_to_one<L: Ledger>(
 fn take_next<L: Ledger>(
     pool: &mut Pool,
     runner: &mut Runner,
-    is_within: bool,
+    hint: RowHint,
     rows: u64,
     stream: u8,
     row: &Row,
@@ -62,7 +62,7 @@ fn take_next<L: Ledger>(
     ensures writes { steps.new.writes ≤ steps.old.writes + plan_writes runner.old.executor.plan }
 {
     runner.catch_up(rows);
-    apply_to_one(pool, &mut runner.executor, is_within, stream, row, steps)
+    apply_to_one(pool, &mut runner.executor, hint, stream, row, steps)
 }
 
 // The number of rows with one more. Where no query is live it is of no account, and may be too large.
@@ -102,16 +102,11 @@ fn apply_to_each<L: Ledger>(
     'bits: while left != 0 {
         let place = lowest_bit(left);
         left = without_bit(left, place);
-        let is_within = has_bit(asked.within, place);
-        let waits = take_next(
-            pool,
-            &mut runners[place],
-            is_within,
-            rows,
-            stream,
-            row,
-            steps,
-        );
+        let hint = RowHint {
+            is_within: has_bit(asked.within, place),
+            is_alone: false,
+        };
+        let waits = take_next(pool, &mut runners[place], hint, rows, stream, row, steps);
         waiting = noted(waiting, place, waits);
         next = place + 1;
     }
@@ -181,16 +176,11 @@ fn apply_to_only<L: Ledger>(
     let rows = live.rows;
     live.rows = one_more(rows);
     let runners = live.runners.as_mut_slice();
-    let is_within = asked.word & asked.within != 0;
-    let waits = take_next(
-        pool,
-        &mut runners[place],
-        is_within,
-        rows,
-        stream,
-        row,
-        steps,
-    );
+    let hint = RowHint {
+        is_within: asked.word & asked.within != 0,
+        is_alone: true,
+    };
+    let waits = take_next(pool, &mut runners[place], hint, rows, stream, row, steps);
     kept_where(waits, asked.word)
 }
 

@@ -1,5 +1,5 @@
 -- Assignments of one part of which the mixtures go against its orders make a family for an unbounded inequality.
-use Rattle.std.proofs.Common.{◌≡◌, ◌≢◌, ℕ, ◌<◌, ◌⊎◌, inl, inr, nat_eq, List, cond, Bool, true, false, refl, ap, ◌∙◌, arith, ℤ, ◌≤ℤ◌, ◌<ℤ◌, slice_index_or}
+use Rattle.std.proofs.Common.{◌≡◌, ◌≢◌, ℕ, ◌<◌, ◌⊎◌, inl, inr, nat_eq, List, [], cond, Bool, true, false, refl, ap, ◌∙◌, arith, ℤ, ◌≤ℤ◌, ◌<ℤ◌, slice_index_or}
 use Rattle.std.proofs.lemmas.Int.{ints}
 use Rattle.std.proofs.lemmas.Bool.Decides.{nat_tests}
 use Rattle.sem_query.specs.declared.atom.Attr.{Attr}
@@ -12,7 +12,7 @@ use Rattle.sem_query.specs.Parts.{InPart}
 use Rattle.fam_fooling_sets.specs.Family.{Shows, any, Tells, each, counts}
 use Rattle.fam_fooling_sets.specs.Making.{LaterFails, EarlierFails, KeepsApart, left, right, both, later, earlier}
 use Rattle.fam_fooling_sets.specs.Laws.{InequalitiesTell}
-use Rattle.fam_fooling_sets.proofs.Telling.{own_combination, own-answer, mixed, mix-part}
+use Rattle.fam_fooling_sets.proofs.Telling.{satisfying, own_combination, own-answer, mixed, mix-part}
 use Rattle.fam_fooling_sets.proofs.Counting.{adds-nothing, told-later, told-earlier}
 
 module _ (q : QueryValue) (s : List Sign) (place n : ℕ) (at : ℕ → Assignment) where
@@ -51,14 +51,14 @@ inequalities-tell q s a n f within several there local stream size many asks mad
   where
     by : KeepsApart q s a.stream n made.at → Tells q C3 a n f
     by (both l e) = each (λ marks long i below. (
-      λ mark. any several (projected q (assignment_of (own_combination q within several s a there n f stream size asks made marks i below))) (own-answer q within several s a there n f stream size asks made marks i below mark),
+      λ mark. any several (projected q (assignment_of (own_combination q within several a there n f stream size asks (satisfying q s a n f made) marks i below))) (own-answer q within several a there n f stream size asks (satisfying q s a n f made) marks i below mark),
       λ shows. back marks i below shows,
     ))
       where
         back : (marks : List Bool) (i : ℕ) → i < n → Shows q a f marks i C3 → slice_index_or marks i false ≡ true
         back marks i below (any k t c) =
-            let m = mixed q within several s a there n f stream size asks made marks i below t c in
-            let p = mix-part q within several s a there n f stream size asks made marks i below local m.j m.within_n m.v m.agrees m.satisfies in
+            let m = mixed q within several a there n f stream size asks (satisfying q s a n f made) marks i below t c in
+            let p = mix-part q within several a there n f stream size asks (satisfying q s a n f made) marks i below s made.inside local m.j m.within_n m.v m.agrees m.satisfies in
             elim (sooner i m.j) [
               | inl o ↦ absurd (later-fails q s a.stream n made.at l i m.j o m.within_n p)
               | inr o ↦ elim o [
@@ -66,13 +66,15 @@ inequalities-tell q s a n f within several there local stream size many asks mad
                 | inr k ↦ ap (λ (x : ℕ). slice_index_or marks x false) k ∙ m.mark
               ]
             ]
-    by (later d l) = counts refl d several (told-later q within several s a there n f stream size asks made (λ i j o m.
-        adds-nothing q within several s a there n f stream size asks made i (before i j n o m) local j m (later-fails q s a.stream n made.at l i j o m)))
+    by (later d l) = counts refl d several (told-later q within several a there n f stream size asks (satisfying q s a n f made) (λ i j o m.
+        adds-nothing q within several a there n f stream size asks (satisfying q s a n f made) i (before i j n o m) j m (λ h.
+        later-fails q s a.stream n made.at l i j o m (mix-part q within several a there n f stream size asks (satisfying q s a n f made) [] i (before i j n o m) s made.inside local j m _ (λ b r. refl) h))))
       where
         before : (i j n : ℕ) → i < j → j < n → i < n
         before i j n l m = omega (arith, l, m)
-    by (earlier d e) = counts refl d several (told-earlier q within several s a there n f stream size asks made (λ i j o m.
-        adds-nothing q within several s a there n f stream size asks made i m local j (before i j n o m) (earlier-fails q s a.stream n made.at e i j o m)))
+    by (earlier d e) = counts refl d several (told-earlier q within several a there n f stream size asks (satisfying q s a n f made) (λ i j o m.
+        adds-nothing q within several a there n f stream size asks (satisfying q s a n f made) i m j (before i j n o m) (λ h.
+        earlier-fails q s a.stream n made.at e i j o m (mix-part q within several a there n f stream size asks (satisfying q s a n f made) [] i m s made.inside local j (before i j n o m) _ (λ b r. refl) h))))
       where
         before : (i j n : ℕ) → j < i → i < n → j < n
         before i j n l m = omega (arith, l, m)

@@ -2,19 +2,16 @@
 use Rattle.std.proofs.Common.{◌≡◌, ◌≢◌, ℕ, zero, suc, ◌+◌, ◌*◌, ◌<◌, ◌≤◌, ◌⊎◌, inl, inr, nat_eq, List, [], ◌∷◌, ◌++◌, map, filter, length, cond, Bool, true, false, refl, sym, ap, ◌∙◌, arith, ℤ, slice_index_or, Contains}
 use Rattle.std.proofs.lemmas.List.{length-map}
 use Rattle.sem_query.specs.declared.atom.Attr.{Attr}
-use Rattle.sem_query.specs.declared.part.Pair.{Pair}
-use Rattle.sem_query.specs.declared.part.Sign.{Sign}
 use Rattle.sem_query.specs.Query.{QueryValue, attrs_of, IsWithinLimits}
-use Rattle.sem_query.specs.Assignment.{Assignment, holds, projected}
+use Rattle.sem_query.specs.Assignment.{Holds, holds, projected}
 use Rattle.sem_query.specs.Meaning.{Arrival, rows, product, by_column, assignment_of, answers}
-use Rattle.sem_query.specs.Parts.{pairs, InPart}
 use Rattle.sem_query.proofs.Has.{Contains-from_has}
 use Rattle.sem_laws.proofs.Sums.{sums, sums_same, nested, sums_product, sums_bits, bit}
 use Rattle.sem_laws.proofs.Tests.{nat_true, true_or_false, false_if}
 use Rattle.fam_fooling_sets.specs.Family.{FamilyValue, marked, row_at, asking_at, history_of, Asks, AreToldApart}
-use Rattle.fam_fooling_sets.specs.Making.{IsMade}
-use Rattle.fam_fooling_sets.specs.Laws.{IsLocal}
-use Rattle.fam_fooling_sets.proofs.Telling.{holds-same, at-row, rows-here, rows-there, lists-at, mix-part, read-there}
+use Rattle.fam_motions.specs.Apart.{mixture}
+use Rattle.fam_fooling_sets.specs.Making.{HasSolutions}
+use Rattle.fam_fooling_sets.proofs.Telling.{holds-same, at-row, rows-here, rows-there, lists-at, read-there}
 
 -- ---- sums over the places that are marked
 
@@ -200,8 +197,8 @@ sums-marked f d (b ∷ bs) (x ∷ xs) k t l h =
 
 -- ---- the answers to the rows that ask for a number
 
-module _ (q : QueryValue) (within : IsWithinLimits q) (several : 1 < length q.from) (s : List Sign) (a : Attr) (there : a.stream < length q.from) (n : ℕ) (f : FamilyValue)
-    (stream : f.stream ≡ slice_index_or q.from a.stream 0) (size : length f.rows ≡ n) (asks : (i : ℕ) → i < n → Asks q f i) (made : IsMade q s a n f) where
+module _ (q : QueryValue) (within : IsWithinLimits q) (several : 1 < length q.from) (a : Attr) (there : a.stream < length q.from) (n : ℕ) (f : FamilyValue)
+    (stream : f.stream ≡ slice_index_or q.from a.stream 0) (size : length f.rows ≡ n) (asks : (i : ℕ) → i < n → Asks q f i) (made : HasSolutions q a.stream n f) where
   module _ (i : ℕ) where
     -- the row that asks at a place
     abbrev R : ℕ → List ℤ
@@ -214,13 +211,10 @@ module _ (q : QueryValue) (within : IsWithinLimits q) (several : 1 < length q.fr
     abbrev pub adds : ℕ → ℕ
     adds j = bit (holds q (assignment_of (C (row_at f j))))
 
-    abbrev mixture : ℕ → Assignment
-    mixture j b = cond (nat_eq b.stream a.stream) (made.at j b) (made.at i b)
-
     module _ (below : i < n) where
-      reads : (j : ℕ) → j < n → (b : Attr) → Contains (attrs_of q.atoms) b ⊎ Contains q.select b → assignment_of (C (row_at f j)) b ≡ mixture j b
+      reads : (j : ℕ) → j < n → (b : Attr) → Contains (attrs_of q.atoms) b ⊎ Contains q.select b → assignment_of (C (row_at f j)) b ≡ mixture a.stream (made.at j) (made.at i) b
       reads j l b read =
-          let m : b.stream < length q.from = read-there q within several s a there n f stream size asks made b read in
+          let m : b.stream < length q.from = read-there q within several a there n f stream size asks made b read in
           at-row (C (row_at f j)) b.stream b.column (let e = length-combined a.stream R (row_at f j) 0 (length q.from) in omega (arith, e, m))
           ∙ ap (λ (r : List ℤ). by_column r b.column) (at-combined a.stream R (row_at f j) [] 0 (length q.from) b.stream b.stream m (omega arith))
           ∙ elim (true_or_false (nat_eq b.stream a.stream)) [
@@ -238,20 +232,20 @@ module _ (q : QueryValue) (within : IsWithinLimits q) (several : 1 < length q.fr
 
       -- each number is answered to what asks for itself
       pub adds-itself : adds i ≡ 1
-      adds-itself = ap bit (holds-same q (made.at i) (assignment_of (C (row_at f i))) (λ b k. sym (reads i below b (inl (Contains-from_has (attrs_of q.atoms) b k)) ∙ own b)) (made.inside i below).holds)
+      adds-itself = ap bit (holds-same q (made.at i) (assignment_of (C (row_at f i))) (λ b k. sym (reads i below b (inl (Contains-from_has (attrs_of q.atoms) b k)) ∙ own b)) (made.holds i below))
         where
-          own : (b : Attr) → mixture i b ≡ made.at i b
+          own : (b : Attr) → mixture a.stream (made.at i) (made.at i) b ≡ made.at i b
           own b = by (nat_eq b.stream a.stream)
             where
               by : (t : Bool) → cond t (made.at i b) (made.at i b) ≡ made.at i b
               by true = refl
               by false = refl
 
-      -- and no number of which the mixture is none of the part
-      pub adds-nothing : ((p : Pair) → Contains (pairs q) p → IsLocal p) → (j : ℕ) → j < n → (InPart q s (mixture j) → ⊥) → adds j ≡ 0
-      adds-nothing local j l lacks =
+      -- and no number of which the mixture does not satisfy the query
+      pub adds-nothing : (j : ℕ) → j < n → (Holds q (mixture a.stream (made.at j) (made.at i)) → ⊥) → adds j ≡ 0
+      adds-nothing j l lacks =
           ap bit (false_if (holds q (assignment_of (C (row_at f j)))) (λ h.
-          lacks (mix-part q within several s a there n f stream size asks made [] i below local j l (assignment_of (C (row_at f j))) (reads j l) h)))
+          lacks (holds-same q (assignment_of (C (row_at f j))) (mixture a.stream (made.at j) (made.at i)) (λ b k. reads j l b (inl (Contains-from_has (attrs_of q.atoms) b k))) h)))
 
       pub counted : (marks : List Bool) → length marks ≡ n → length (answers q (history_of f marks ++ asking_at f i)) ≡ weigh adds 0 marks
       counted marks long =
@@ -270,14 +264,14 @@ module _ (q : QueryValue) (within : IsWithinLimits q) (several : 1 < length q.fr
           placed : (place : ℕ) → place < length lists → slice_index_or lists place [] ≡ cond (nat_eq place a.stream) (marked marks f.rows) (R place ∷ [])
           placed place l =
               let m : place < length q.from = (let e = length-map q.from (rows h) in omega (arith, e, l)) in
-              lists-at q within several s a there n f stream size asks made marks i below place [] m
+              lists-at q within several a there n f stream size asks made marks i below place [] m
               ∙ elim (true_or_false (nat_eq place a.stream)) [
-                | inl e ↦ ap (λ (z : ℕ). rows h (slice_index_or q.from z 0)) (nat_true place a.stream e) ∙ rows-here q within several s a there n f stream size asks made marks i below
+                | inl e ↦ ap (λ (z : ℕ). rows h (slice_index_or q.from z 0)) (nat_true place a.stream e) ∙ rows-here q within several a there n f stream size asks made marks i below
                     ∙ sym (ap (λ t. cond t (marked marks f.rows) (R place ∷ [])) e)
                 | inr e ↦ (
                     let ne : place ≢ a.stream = (λ o. differs place a.stream o e) in
                     let r = (made.rows i below).others place m ne in
-                    rows-there q within several s a there n f stream size asks made marks i below place m ne ∙ r.1
+                    rows-there q within several a there n f stream size asks made marks i below place m ne ∙ r.1
                     ∙ ap (λ (x : List ℤ). x ∷ []) (sym (ap (λ (xs : List (List ℤ)). slice_index_or xs 0 []) r.1))
                     ∙ sym (ap (λ t. cond t (marked marks f.rows) (R place ∷ [])) e))
               ]

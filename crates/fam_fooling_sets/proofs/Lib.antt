@@ -2,6 +2,7 @@ pub mod Telling
 pub mod TellingAlone
 pub mod Counting
 pub mod Apart
+pub mod Mixing
 pub mod Lengths
 pub mod Moving
 pub mod Collisions
@@ -10,6 +11,7 @@ pub mod Values
 pub mod Cells
 pub mod Points
 pub mod Made
+pub mod Drawn
 pub mod Solved
 pub mod FromPart
 pub mod Motions

@@ -9,7 +9,7 @@ use Rattle.sem_query.specs.declared.atom.Element.TheVariants as element
 use Rattle.sem_query.specs.declared.part.Pair.{Pair}
 use Rattle.sem_query.specs.declared.part.Sign.{Sign}
 use Rattle.sem_query.specs.Query.{QueryValue, attrs_of, consts_of, attr_eq, IsDomain, IsWithinLimits}
-use Rattle.sem_query.specs.Assignment.{Assignment, value, lies_in, KeepsDomains}
+use Rattle.sem_query.specs.Assignment.{Assignment, value, lies_in, Holds, KeepsDomains}
 use Rattle.sem_query.specs.Meaning.{Arrival, rows, by_column, joined}
 use Rattle.sem_query.specs.Parts.{pairs, sign, sign_at, InPart}
 use Rattle.sem_query.specs.Order.{IsBounded}
@@ -27,7 +27,7 @@ use Rattle.plan_constraints.proofs.NodeFacts.{node_there, node_has}
 use Rattle.plan_closure.specs.Answers.{at_nodes}
 use Rattle.fam_fooling_sets.specs.declared.ground.Ground.{Ground}
 use Rattle.fam_fooling_sets.specs.Family.{FamilyValue, row_at, asking_at, Asks, itself, others}
-use Rattle.fam_fooling_sets.specs.Making.{IsRowOf, IsMade}
+use Rattle.fam_fooling_sets.specs.Making.{IsRowOf, AreRowsOf, HasSolutions, IsMade}
 use Rattle.fam_fooling_sets.specs.Blanks.{IsRead, AreBlanks, IsLike}
 use Rattle.fam_fooling_sets.specs.Shown.{rows_in}
 use Rattle.fam_fooling_sets.specs.Lowered.{IsLikeBlank, AreLike}
@@ -123,20 +123,26 @@ module _ (row : ℕ → List ℤ) (from : List ℕ) (own : ℕ) where
 
 -- ---- rows that are made from solutions
 
--- for each number a solution, and the value of the named column, from which its rows are drawn
-pub record IsDrawn (q : QueryValue) (s : List Sign) (a : Attr) (g : Ground) (n : ℕ) (f : FamilyValue) (xs : ℕ → List ℤ) (val : ℕ → ℤ) : Type 0 where
-  pub solves : (k : ℕ) → k < n → InPart q s (assignment_of (attrs_of q.atoms) q.domains (at_nodes (xs k)))
+-- for each number values of the attributes that satisfy the query and keep to its domains, and the value of the named column, from which its rows are drawn
+pub record AreDrawn (q : QueryValue) (a : Attr) (g : Ground) (n : ℕ) (f : FamilyValue) (xs : ℕ → List ℤ) (val : ℕ → ℤ) : Type 0 where
+  pub holds : (k : ℕ) → k < n → Holds q (assignment_of (attrs_of q.atoms) q.domains (at_nodes (xs k)))
+  pub keeps : (k : ℕ) → k < n → (d : Domain) → Has q.domains d → Has (attrs_of q.atoms) d.attr → lies_in d (assignment_of (attrs_of q.atoms) q.domains (at_nodes (xs k)) d.attr) ≡ true
   pub value : (k : ℕ) → k < n → Contains (attrs_of q.atoms) a → at_nodes (xs k) (suc (place_of (attrs_of q.atoms) a)) ≡ val k
-  pub apart : (i j : ℕ) → i < n → j < n → val i ≡ val j → i ≡ j
   pub value_fits : (k : ℕ) → k < n → FitsSigned w64 (val k)
   pub far : (k : ℕ) → k < n → All IsFarWithin (xs k)
   pub own : (k : ℕ) → k < n → row_at f k ≡ row_for g.attrs.now (xs k) g.named (val k) a.stream (blank_at g.blanks.now a.stream)
   pub asks : (k : ℕ) → k < n → asking_at f k ≡ asked_for (λ place. row_for g.attrs.now (xs k) g.named (val k) place (blank_at g.blanks.now place)) g.from.now a.stream
 
-module _ (q : QueryValue) (within : IsWithinLimits q) (s : List Sign) (a : Attr) (g : Ground) (n : ℕ) (f : FamilyValue)
-    (ground : IsGroundOf q s a g) (read : IsRead q a) (free : IsBounded q s a → ⊥) (there : a.stream < length q.from)
+-- the columns and streams of the query, and the named column
+pub record IsGroundFor (q : QueryValue) (a : Attr) (g : Ground) : Type 0 where
+  pub attrs_are : g.attrs.now ≡ attrs_of q.atoms
+  pub from_is : g.from.now ≡ q.from
+  pub named_is : g.named ≡ a
+
+module _ (q : QueryValue) (within : IsWithinLimits q) (a : Attr) (g : Ground) (n : ℕ) (f : FamilyValue)
+    (ground : IsGroundFor q a g) (read : IsRead q a) (free : (d : Domain) → Has q.domains d → (Contains (attrs_of q.atoms) d.attr → ⊥) → d.attr ≡ a → ⊥) (there : a.stream < length q.from)
     (blanks : AreBlanks q (rows_in g.blanks.now)) (stream : f.stream ≡ slice_index_or q.from a.stream 0)
-    (xs : ℕ → List ℤ) (val : ℕ → ℤ) (made : IsDrawn q s a g n f xs val) where
+    (xs : ℕ → List ℤ) (val : ℕ → ℤ) (made : AreDrawn q a g n f xs val) where
   well : IsQuery q
   well = query_within q within
 
@@ -165,9 +171,6 @@ module _ (q : QueryValue) (within : IsWithinLimits q) (s : List Sign) (a : Attr)
 
   at-cell : (k : ℕ) (b : Attr) → IsRead q b → at k b ≡ cell_for g.attrs.now (xs k) g.named (val k) b (by_column (blank_at g.blanks.now b.stream) b.column)
   at-cell k b r = at-is k b (read-there b r) ∙ cell-is k b (blanks.wide b r)
-
-  in-base : (k : ℕ) → k < n → InPart q s (base k)
-  in-base k l = made.solves k l
 
   base-at : (k : ℕ) (b : Attr) → Has (attrs_of q.atoms) b → base k b ≡ at_nodes (xs k) (suc (place_of (attrs_of q.atoms) b))
   base-at k b h = ap (λ t. cond t (at_nodes (xs k) (suc (place_of (attrs_of q.atoms) b))) (low_of q.domains b)) (node_there (attrs_of q.atoms) b h)
@@ -206,21 +209,18 @@ module _ (q : QueryValue) (within : IsWithinLimits q) (s : List Sign) (a : Attr)
       by : (t : Bool) → has_node (attrs_of q.atoms) d.attr ≡ t → lies_in d (at k d.attr) ≡ true
       by true e =
           let m : Has (attrs_of q.atoms) d.attr = node_has (attrs_of q.atoms) d.attr e in
-          subst (λ z. lies_in d z ≡ true) (sym (agree k l d.attr m)) (keeps_each q (base k) (in-base k l).domains d h)
+          subst (λ z. lies_in d z ≡ true) (sym (agree k l d.attr m)) (made.keeps k l d h m)
       by false e =
           let c : Contains q.domains d = Contains-from_has q.domains d h in
           let r : IsRead q d.attr = (All-contains (IsDomain q) q.domains d within.domains c).column in
-          let na : d.attr ≡ a → ⊥ = (λ o. free (subst (IsBounded q s) o (domain-bounds q s d h))) in
           let nc : Contains (attrs_of q.atoms) d.attr → ⊥ = (λ i. not_both _ (node_there (attrs_of q.atoms) d.attr (Has-from_contains (attrs_of q.atoms) d.attr i)) e) in
+          let na : d.attr ≡ a → ⊥ = free d h nc in
           subst (λ z. lies_in d z ≡ true) (sym (at-cell k d.attr r ∙ stays k d.attr na nc)) (blanks.keeps d c)
 
-  keeps : (k : ℕ) → k < n → KeepsDomains q (at k)
+  pub keeps : (k : ℕ) → k < n → KeepsDomains q (at k)
   keeps k l = each_keeps q (at k) (keeps-one k l)
 
-  pub inside : (k : ℕ) → k < n → InPart q s (at k)
-  inside k l = part-same q s (base k) (at k) (λ b h. sym (agree k l b h)) (in-base k l) (keeps k l)
-
-  value-is : (k : ℕ) → at k a ≡ val k
+  pub value-is : (k : ℕ) → at k a ≡ val k
   value-is k =
       at-cell k a read
       ∙ ap (λ t. cond t (val k) (cond (has_node g.attrs.now a) (at_nodes (xs k) (suc (place_of g.attrs.now a))) (by_column (blank_at g.blanks.now a.stream) a.column)))
@@ -268,21 +268,25 @@ module _ (q : QueryValue) (within : IsWithinLimits q) (s : List Sign) (a : Attr)
     λ b e r. ap (λ (m : ℕ). by_column (row k m) b.column) (sym e) ∙ sym (at-is k b (read-there b r)),
   )
 
-  pub family-made : IsMade q s a n f
-  family-made = record {
-    at = at;
-    inside = inside;
-    apart = λ i j l m e. made.apart i j l m (sym (value-is i) ∙ e ∙ value-is j);
-    rows = λ k l. record { here = here k l; others = beside k l };
-  }
+  -- each number has the assignment of its rows
+  pub drawn-rows : (k : ℕ) → k < n → AreRowsOf q f a.stream k (at k)
+  drawn-rows k l = record { here = here k l; others = beside k l }
 
-  -- at an attribute they have the values of the solutions
-  pub family-at : (k : ℕ) → k < n → (b : Attr) → Has (attrs_of q.atoms) b → family-made.at k b ≡ base k b
-  unfolding family-made
-  family-at = agree
+  pub drawn-solutions : HasSolutions q a.stream n f
+  drawn-solutions = record { at = at; holds = λ k l. holds-same q (base k) (at k) (λ b h. sym (agree k l b h)) (made.holds k l); rows = drawn-rows }
 
-  pub family-asks : (k : ℕ) → k < n → Asks q f k
-  family-asks k l = by (nat_eq (length q.from) 1) refl
+  -- its value at the named column
+  pub drawn-at : (k : ℕ) → drawn-solutions.at k a ≡ val k
+  unfolding drawn-solutions
+  drawn-at = value-is
+
+  -- and at an attribute
+  pub drawn-agree : (k : ℕ) → k < n → (b : Attr) → Has (attrs_of q.atoms) b → drawn-solutions.at k b ≡ base k b
+  unfolding drawn-solutions
+  drawn-agree = agree
+
+  pub drawn-asks : (k : ℕ) → k < n → Asks q f k
+  drawn-asks k l = by (nat_eq (length q.from) 1) refl
     where
       by : (t : Bool) → nat_eq (length q.from) 1 ≡ t → Asks q f k
       by true e = itself (nat_true (length q.from) 1 e)
@@ -319,8 +323,8 @@ module _ (q : QueryValue) (within : IsWithinLimits q) (s : List Sign) (a : Attr)
         ∙ stays k b (λ o. nr (subst (IsRead q) (sym o) read)) (λ i. nr (inl i));
   }
 
-  pub family-like : AreLike q (rows_in g.blanks.now) n f
-  family-like = record {
+  pub drawn-like : AreLike q (rows_in g.blanks.now) n f
+  drawn-like = record {
     rows = λ k l. record { place = a.stream; there = there; stream = stream; like = subst (IsLike q (rows_in g.blanks.now) a.stream) (sym (own-row k l)) (like k l a.stream there) };
     asking = λ k l r c. by k l r (nat_eq (length q.from) 1) refl (Has-from_contains (asking_at f k) r c);
   }
@@ -337,3 +341,59 @@ module _ (q : QueryValue) (within : IsWithinLimits q) (s : List Sign) (a : Attr)
       by k l r false e h =
           let z = others-from (row k) q.from a.stream (length q.from) r (subst (λ z. Has z r) (several-asked k l e) h) in
           row-like k l r z.0 z.1 z.2
+
+-- ---- rows that are made from solutions of a part
+
+-- for each number a solution, and the value of the named column, from which its rows are drawn
+pub record IsDrawn (q : QueryValue) (s : List Sign) (a : Attr) (g : Ground) (n : ℕ) (f : FamilyValue) (xs : ℕ → List ℤ) (val : ℕ → ℤ) : Type 0 where
+  pub solves : (k : ℕ) → k < n → InPart q s (assignment_of (attrs_of q.atoms) q.domains (at_nodes (xs k)))
+  pub value : (k : ℕ) → k < n → Contains (attrs_of q.atoms) a → at_nodes (xs k) (suc (place_of (attrs_of q.atoms) a)) ≡ val k
+  pub apart : (i j : ℕ) → i < n → j < n → val i ≡ val j → i ≡ j
+  pub value_fits : (k : ℕ) → k < n → FitsSigned w64 (val k)
+  pub far : (k : ℕ) → k < n → All IsFarWithin (xs k)
+  pub own : (k : ℕ) → k < n → row_at f k ≡ row_for g.attrs.now (xs k) g.named (val k) a.stream (blank_at g.blanks.now a.stream)
+  pub asks : (k : ℕ) → k < n → asking_at f k ≡ asked_for (λ place. row_for g.attrs.now (xs k) g.named (val k) place (blank_at g.blanks.now place)) g.from.now a.stream
+
+module _ (q : QueryValue) (within : IsWithinLimits q) (s : List Sign) (a : Attr) (g : Ground) (n : ℕ) (f : FamilyValue)
+    (ground : IsGroundOf q s a g) (read : IsRead q a) (free : IsBounded q s a → ⊥) (there : a.stream < length q.from)
+    (blanks : AreBlanks q (rows_in g.blanks.now)) (stream : f.stream ≡ slice_index_or q.from a.stream 0)
+    (xs : ℕ → List ℤ) (val : ℕ → ℤ) (made : IsDrawn q s a g n f xs val) where
+  shaped : IsGroundFor q a g
+  shaped = record { attrs_are = ground.attrs_are; from_is = ground.from_is; named_is = ground.named_is }
+
+  drawn : AreDrawn q a g n f xs val
+  drawn = record {
+    holds = λ k l. (made.solves k l).holds;
+    keeps = λ k l d h m. keeps_each q (assignment_of (attrs_of q.atoms) q.domains (at_nodes (xs k))) (made.solves k l).domains d h;
+    value = made.value;
+    value_fits = made.value_fits;
+    far = made.far;
+    own = made.own;
+    asks = made.asks;
+  }
+
+  no-domain : (d : Domain) → Has q.domains d → (Contains (attrs_of q.atoms) d.attr → ⊥) → d.attr ≡ a → ⊥
+  no-domain d h nc o = free (subst (IsBounded q s) o (domain-bounds q s d h))
+
+  pub family-made : IsMade q s a n f
+  family-made = record {
+    at = at q within a g n f shaped read no-domain there blanks stream xs val drawn;
+    inside = λ k l.
+        part-same q s (base q within a g n f shaped read no-domain there blanks stream xs val drawn k) (at q within a g n f shaped read no-domain there blanks stream xs val drawn k)
+        (λ b h. sym (agree q within a g n f shaped read no-domain there blanks stream xs val drawn k l b h)) (made.solves k l)
+        (keeps q within a g n f shaped read no-domain there blanks stream xs val drawn k l);
+    apart = λ i j l m e.
+        made.apart i j l m (sym (value-is q within a g n f shaped read no-domain there blanks stream xs val drawn i) ∙ e ∙ value-is q within a g n f shaped read no-domain there blanks stream xs val drawn j);
+    rows = drawn-rows q within a g n f shaped read no-domain there blanks stream xs val drawn;
+  }
+
+  -- at an attribute they have the values of the solutions
+  pub family-at : (k : ℕ) → k < n → (b : Attr) → Has (attrs_of q.atoms) b → family-made.at k b ≡ assignment_of (attrs_of q.atoms) q.domains (at_nodes (xs k)) b
+  unfolding family-made
+  family-at = agree q within a g n f shaped read no-domain there blanks stream xs val drawn
+
+  pub family-asks : (k : ℕ) → k < n → Asks q f k
+  family-asks = drawn-asks q within a g n f shaped read no-domain there blanks stream xs val drawn
+
+  pub family-like : AreLike q (rows_in g.blanks.now) n f
+  family-like = drawn-like q within a g n f shaped read no-domain there blanks stream xs val drawn

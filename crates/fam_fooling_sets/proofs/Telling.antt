@@ -27,7 +27,8 @@ use Rattle.sem_laws.proofs.OnePartFits.{has_cases}
 use Rattle.sem_laws.proofs.Extremes.{flat_map-from, has-flat_map}
 use Rattle.sem_laws.proofs.LaidOut.{length-upto, get-upto}
 use Rattle.fam_fooling_sets.specs.Family.{alone, FamilyValue, marked, row_at, asking_at, as_arrival, history_of, place_in, Shows, value as by_value, some, each, Asks, itself, others}
-use Rattle.fam_fooling_sets.specs.Making.{IsMade}
+use Rattle.fam_motions.specs.Apart.{Differ}
+use Rattle.fam_fooling_sets.specs.Making.{HasSolutions, IsMade}
 use Rattle.fam_fooling_sets.specs.Laws.{IsLocalTo, IsLocal, AreLocalFor, FamiliesTell}
 
 -- the members of a nested product, place by place
@@ -140,8 +141,12 @@ module _ (q : QueryValue) (v w : Assignment) (g : AgreeOn q v w) where
       let s : SidesIn q.atoms t = sides_in q.atoms t i in
       sym (λ j. compares t.op (element-same t.left s.left j) (element-same t.right s.right j)) ∙ Holds-each q v h t i)
 
-module _ (q : QueryValue) (within : IsWithinLimits q) (several : 1 < length q.from) (s : List Sign) (a : Attr) (there : a.stream < length q.from) (n : ℕ) (f : FamilyValue)
-    (stream : f.stream ≡ slice_index_or q.from a.stream 0) (size : length f.rows ≡ n) (asks : (i : ℕ) → i < n → Asks q f i) (made : IsMade q s a n f) where
+-- assignments of a part satisfy the query
+abbrev pub satisfying : (q : QueryValue) (s : List Sign) (a : Attr) (n : ℕ) (f : FamilyValue) → IsMade q s a n f → HasSolutions q a.stream n f
+satisfying q s a n f made = record { at = made.at; holds = λ i l. (made.inside i l).holds; rows = made.rows }
+
+module _ (q : QueryValue) (within : IsWithinLimits q) (several : 1 < length q.from) (a : Attr) (there : a.stream < length q.from) (n : ℕ) (f : FamilyValue)
+    (stream : f.stream ≡ slice_index_or q.from a.stream 0) (size : length f.rows ≡ n) (asks : (i : ℕ) → i < n → Asks q f i) (made : HasSolutions q a.stream n f) where
   well : IsQuery q
   well = query_within q within
 
@@ -301,7 +306,7 @@ module _ (q : QueryValue) (within : IsWithinLimits q) (several : 1 < length q.fr
     pub own-answer : slice_index_or marks i false ≡ true → Contains (answers q h) (projected q (assignment_of own_combination))
     own-answer mark =
         let holds-own : Holds q (assignment_of own_combination)
-        = holds-same q (made.at i) (assignment_of own_combination) (λ b k. sym (own-read b (inl (Contains-from_has (attrs_of q.atoms) b k)))) (made.inside i below).holds in
+        = holds-same q (made.at i) (assignment_of own_combination) (λ b k. sym (own-read b (inl (Contains-from_has (attrs_of q.atoms) b k)))) (made.holds i below) in
         Contains-from_has (answers q h) (projected q (assignment_of own_combination))
         (Has-map (λ c. projected q (assignment_of c)) (Has-filter (λ c. holds q (assignment_of c)) holds-own (own-there mark)))
 
@@ -333,8 +338,8 @@ module _ (q : QueryValue) (within : IsWithinLimits q) (several : 1 < length q.fr
     own-column j = (let e : nat_eq a.stream a.stream ≡ true = grind (arith, nat_tests) in ap (λ t. cond t (made.at j a) (made.at i a)) e)
 
     -- an unbounded selected column
-    tells-value : Contains q.select a → (slice_index_or marks i false ≡ true → Shows q a f marks i C1) × (Shows q a f marks i C1 → slice_index_or marks i false ≡ true)
-    tells-value chosen = (
+    pub tells-value : Contains q.select a → Differ n made.at a → (slice_index_or marks i false ≡ true → Shows q a f marks i C1) × (Shows q a f marks i C1 → slice_index_or marks i false ≡ true)
+    tells-value chosen apart = (
       λ mark. by_value several (projected q (assignment_of own_combination)) (own-answer mark)
           (projected-at a q.select (assignment_of own_combination) chosen ∙ own-read a (inr chosen) ∙ sym ((made.rows i below).here a refl (inr chosen))),
       λ shows. back shows,
@@ -347,10 +352,10 @@ module _ (q : QueryValue) (within : IsWithinLimits q) (several : 1 < length q.fr
             let same : made.at m.j a ≡ made.at i a
             = sym (own-column m.j) ∙ sym (m.agrees a (inr chosen)) ∙ sym (projected-at a q.select m.v chosen)
             ∙ ap (λ (ts : List ℤ). slice_index_or ts (place_in q.select a) (pos 0)) m.tuple ∙ e ∙ (made.rows i below).here a refl (inr chosen) in
-            ap (λ (x : ℕ). slice_index_or marks x false) (sym (made.apart m.j i m.within_n below same)) ∙ m.mark
+            ap (λ (x : ℕ). slice_index_or marks x false) (sym (apart m.j i m.within_n below same)) ∙ m.mark
 
     -- an unbounded equality: where no pair lies between streams, what is mixed is of the part too
-    module _ (local : (p : Pair) → Contains (pairs q) p → IsLocal p) where
+    module _ (s : List Sign) (inside : (j : ℕ) → j < n → InPart q s (made.at j)) (local : (p : Pair) → Contains (pairs q) p → IsLocal p) where
       mix-element : (j : ℕ) (x : Element) (l : Attr) → IsLocalTo l x → value x (mix j) ≡ value x (cond (nat_eq l.stream a.stream) (made.at j) (made.at i))
       mix-element j (element.Const k) l o = refl
       mix-element j (element.Attr b) l o =
@@ -366,7 +371,7 @@ module _ (q : QueryValue) (within : IsWithinLimits q) (several : 1 < length q.fr
           same_map (sign_at (mix j)) (sign_at (made.at i)) (pairs q) (λ p k.
           (λ t. sign (left p t) (mix-element j p.right p.left (local p (Contains-from_has (pairs q) p k)) t))
           ∙ by p k (nat_eq p.left.stream a.stream))
-          ∙ (made.inside i below).signs
+          ∙ (inside i below).signs
         where
           left : (p : Pair) → mix j p.left ≡ cond (nat_eq p.left.stream a.stream) (made.at j) (made.at i) p.left
           left p = at (nat_eq p.left.stream a.stream)
@@ -376,15 +381,15 @@ module _ (q : QueryValue) (within : IsWithinLimits q) (several : 1 < length q.fr
               at false = refl
 
           by : (p : Pair) → Has (pairs q) p → (t : Bool) → sign_at (cond t (made.at j) (made.at i)) p ≡ sign_at (made.at i) p
-          by p k true = same_at (sign_at (made.at j)) (sign_at (made.at i)) ((made.inside j l).signs ∙ sym (made.inside i below).signs) k
+          by p k true = same_at (sign_at (made.at j)) (sign_at (made.at i)) ((inside j l).signs ∙ sym (inside i below).signs) k
           by p k false = refl
 
       mix-domains : (j : ℕ) → j < n → KeepsDomains q (mix j)
       mix-domains j l = each_keeps q (mix j) (λ d k. by d k (nat_eq d.attr.stream a.stream))
         where
           by : (d : Domain) → Has q.domains d → (t : Bool) → lies_in d (cond t (made.at j d.attr) (made.at i d.attr)) ≡ true
-          by d k true = keeps_each q (made.at j) (made.inside j l).domains d k
-          by d k false = keeps_each q (made.at i) (made.inside i below).domains d k
+          by d k true = keeps_each q (made.at j) (inside j l).domains d k
+          by d k false = keeps_each q (made.at i) (inside i below).domains d k
 
       pub mix-part : (j : ℕ) → j < n → (v : Assignment) → ((b : Attr) → IsRead b → v b ≡ mix j b) → Holds q v → InPart q s (mix j)
       mix-part j l v g h = record {
@@ -393,8 +398,8 @@ module _ (q : QueryValue) (within : IsWithinLimits q) (several : 1 < length q.fr
         signs = mix-signs j l;
       }
 
-      tells-some : Breaks q s C2 a → (slice_index_or marks i false ≡ true → Shows q a f marks i C2) × (Shows q a f marks i C2 → slice_index_or marks i false ≡ true)
-      tells-some breaks = (λ mark. some several (projected q (assignment_of own_combination)) (own-answer mark), λ shows. back shows)
+      tells-some : Breaks q s C2 a → Differ n made.at a → (slice_index_or marks i false ≡ true → Shows q a f marks i C2) × (Shows q a f marks i C2 → slice_index_or marks i false ≡ true)
+      tells-some breaks apart = (λ mark. some several (projected q (assignment_of own_combination)) (own-answer mark), λ shows. back shows)
         where
           other : (b : Attr) → b.stream ≢ a.stream → (j : ℕ) → mix j b ≡ made.at i b
           other b ne j = (let e : nat_eq b.stream a.stream ≡ false = grind (arith, ne) in ap (λ t. cond t (made.at j b) (made.at i b)) e)
@@ -410,8 +415,8 @@ module _ (q : QueryValue) (within : IsWithinLimits q) (several : 1 < length q.fr
               let m = mixed t c in
               let k = mix-part m.j m.within_n m.v m.agrees m.satisfies in
               let same : made.at m.j a ≡ made.at i a
-              = sym (own-column m.j) ∙ equal_in (mix m.j) k ∙ other breaks.1 across m.j ∙ sym (equal_in (made.at i) (made.inside i below)) in
-              ap (λ (x : ℕ). slice_index_or marks x false) (sym (made.apart m.j i m.within_n below same)) ∙ m.mark
+              = sym (own-column m.j) ∙ equal_in (mix m.j) k ∙ other breaks.1 across m.j ∙ sym (equal_in (made.at i) (inside i below)) in
+              ap (λ (x : ℕ). slice_index_or marks x false) (sym (apart m.j i m.within_n below same)) ∙ m.mark
 
 pub families-tell : FamiliesTell
 families-tell q s condition a n f within several there first_two breaks local stream size many asks made = record {
@@ -424,6 +429,6 @@ families-tell q s condition a n f within several there first_two breaks local st
   where
     by : (condition : Condition) → (condition ≡ C3 → ⊥) → Breaks q s condition a → AreLocalFor q condition → (marks : List Bool) (i : ℕ) → i < n
         → (slice_index_or marks i false ≡ true → Shows q a f marks i condition) × (Shows q a f marks i condition → slice_index_or marks i false ≡ true)
-    by C1 o b l marks i below = tells-value q within several s a there n f stream size asks made marks i below b.0
-    by C2 o b l marks i below = tells-some q within several s a there n f stream size asks made marks i below l b
+    by C1 o b l marks i below = tells-value q within several a there n f stream size asks (satisfying q s a n f made) marks i below b.0 made.apart
+    by C2 o b l marks i below = tells-some q within several a there n f stream size asks (satisfying q s a n f made) marks i below s made.inside l b made.apart
     by C3 o b l marks i below = absurd (o refl)

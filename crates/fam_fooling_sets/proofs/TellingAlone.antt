@@ -4,7 +4,6 @@ use Rattle.std.specs.List.{list_any}
 use Rattle.std.proofs.lemmas.List.{length-map, map-append}
 use Rattle.sem_query.specs.declared.atom.Attr.{Attr}
 use Rattle.sem_query.specs.declared.condition.Condition.TheVariants.{C1}
-use Rattle.sem_query.specs.declared.part.Sign.{Sign}
 use Rattle.sem_query.specs.Query.{QueryValue, attrs_of, IsWithinLimits}
 use Rattle.sem_query.specs.Tuples.{is_same}
 use Rattle.sem_query.specs.Assignment.{Assignment, Holds, holds, projected}
@@ -18,9 +17,10 @@ use Rattle.sem_laws.proofs.Counts.{times}
 use Rattle.sem_laws.proofs.Order.{same-itself, same-is, any-times, times-any}
 use Rattle.sem_laws.proofs.NewAnswers.{times-new-distinct}
 use Rattle.fam_fooling_sets.specs.Family.{alone, FamilyValue, marked, row_at, as_arrival, history_of, place_in, Shows, value as by_value, each}
-use Rattle.fam_fooling_sets.specs.Making.{IsMade}
+use Rattle.fam_motions.specs.Apart.{Differ}
+use Rattle.fam_fooling_sets.specs.Making.{HasSolutions}
 use Rattle.fam_fooling_sets.specs.Laws.{FamiliesTellAlone}
-use Rattle.fam_fooling_sets.proofs.Telling.{product-at, product-has, marked-from, marked-has, rows-own, at-row, holds-same, projected-at}
+use Rattle.fam_fooling_sets.proofs.Telling.{product-at, product-has, marked-from, marked-has, rows-own, at-row, holds-same, projected-at, satisfying}
 
 times-none : (z : List ℤ) → times z [] ≡ 0
 unfolding sums
@@ -87,7 +87,7 @@ module _ (q : QueryValue) (within : IsWithinLimits q) (one : length q.from ≡ 1
             (subst (λ (n : ℕ). Has xs (slice_index_or (x ∷ []) n d)) (sym z) k);
       }))
 
-  module _ (d : q.distinct ≡ true) (s : List Sign) (n : ℕ) (size : length f.rows ≡ n) (chosen : Contains q.select a) (made : IsMade q s a n f) (marks : List Bool) (i : ℕ) (below : i < n) where
+  module _ (d : q.distinct ≡ true) (n : ℕ) (size : length f.rows ≡ n) (chosen : Contains q.select a) (made : HasSolutions q a.stream n f) (apart : Differ n made.at a) (marks : List Bool) (i : ℕ) (below : i < n) where
     abbrev h : List Arrival
     h = history_of f marks
 
@@ -107,7 +107,7 @@ module _ (q : QueryValue) (within : IsWithinLimits q) (one : length q.from ≡ 1
         ∙ (made.rows j l).here b (sym (here-only b.stream k)) read
 
     good : (j : ℕ) → j < n → Holds q (assignment_of (row_at f j ∷ []))
-    good j l = holds-same q (made.at j) (assignment_of (row_at f j ∷ [])) (λ b k. sym (reads j l b (inl (Contains-from_has (attrs_of q.atoms) b k)))) (made.inside j l).holds
+    good j l = holds-same q (made.at j) (assignment_of (row_at f j ∷ [])) (λ b k. sym (reads j l b (inl (Contains-from_has (attrs_of q.atoms) b k)))) (made.holds j l)
 
     counts : (z : List ℤ) → times z (new_answers q h r) ≡ bit (not (list_any (is_same z) (answers q h))) * min 1 (times z (answers q (h ++ r ∷ [])))
     counts z = times-new-distinct q h r z d
@@ -160,7 +160,7 @@ module _ (q : QueryValue) (within : IsWithinLimits q) (one : length q.from ≡ 1
               let value : made.at m.0 a ≡ made.at i a
               = sym (reads m.0 l a (inr chosen)) ∙ sym (in-tuple (assignment_of (row_at f m.0 ∷ []))) ∙ ap (λ (ts : List ℤ). slice_index_or ts (place_in q.select a) (pos 0)) same
               ∙ in-tuple (assignment_of (row_at f i ∷ [])) ∙ reads i below a (inr chosen) in
-              not_both (slice_index_or marks i false) (ap (λ (x : ℕ). slice_index_or marks x false) (sym (made.apart m.0 i l below value)) ∙ m.2) mark)
+              not_both (slice_index_or marks i false) (ap (λ (x : ℕ). slice_index_or marks x false) (sym (apart m.0 i l below value)) ∙ m.2) mark)
         ] in
         let c : times z (new_answers q h r) ≡ 1 * min 1 (times z (answers q (h ++ r ∷ []))) = counts z ∙ ap (λ t. bit (not t) * min 1 (times z (answers q (h ++ r ∷ [])))) fresh in
         let nothing : times z (new_answers q h r) ≡ 0 = ap (times z) none ∙ times-none z in
@@ -182,5 +182,5 @@ families-tell-alone q s a n f within one d there chosen stream size many asks ma
   size = size;
   many = many;
   asks = asks;
-  tells = each (λ marks long i below. tells-alone q within one f a there stream d s n size chosen made marks i below);
+  tells = each (λ marks long i below. tells-alone q within one f a there stream d n size chosen (satisfying q s a n f made) made.apart marks i below);
 }

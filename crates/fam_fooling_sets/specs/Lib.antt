@@ -8,3 +8,4 @@ pub mod Lowered
 pub mod Shown
 pub mod Moving
 pub mod Passing
+pub mod Drawing

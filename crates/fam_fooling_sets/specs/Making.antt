@@ -5,7 +5,7 @@ use Rattle.sem_query.specs.declared.atom.Attr.{Attr}
 use Rattle.sem_query.specs.declared.atom.Element.TheVariants as element
 use Rattle.sem_query.specs.declared.part.Sign.{Sign}
 use Rattle.sem_query.specs.Query.{QueryValue, attrs_of}
-use Rattle.sem_query.specs.Assignment.{Assignment}
+use Rattle.sem_query.specs.Assignment.{Assignment, Holds}
 use Rattle.sem_query.specs.Meaning.{rows, by_column}
 use Rattle.sem_query.specs.Parts.{InPart}
 use Rattle.sem_query.specs.Order.{IsLess}
@@ -20,6 +20,12 @@ pub record AreRowsOf (q : QueryValue) (f : FamilyValue) (own i : ℕ) (v : Assig
   pub here : IsRowOf q v own (row_at f i)
   pub others : (place : ℕ) → place < length q.from → place ≢ own
       → (row : List ℤ) × (rows (asking_at f i) (slice_index_or q.from place 0) ≡ row ∷ []) × IsRowOf q v place row
+
+-- each number has an assignment that satisfies the query, and its rows are those of the assignment
+pub record HasSolutions (q : QueryValue) (own n : ℕ) (f : FamilyValue) : Type 0 where
+  pub at : ℕ → Assignment
+  pub holds : (i : ℕ) → i < n → Holds q (at i)
+  pub rows : (i : ℕ) → i < n → AreRowsOf q f own i (at i)
 
 -- each number has an assignment of the part, and no two have one value at the column
 pub record IsMade (q : QueryValue) (s : List Sign) (a : Attr) (n : ℕ) (f : FamilyValue) : Type 0 where

@@ -1,5 +1,5 @@
 -- How the rows of a number are worked out from a solution of the bounds of a part.
-use Rattle.std.specs.Prelude.{◌≡◌, ℕ, zero, suc, ◌<◌, ◌≤◌, cond, nat_eq, List, [], ◌∷◌, ◌++◌, length, Option, None, Some, ℤ, pos, neg_ℤ, ◌+ℤ◌, ◌-ℤ◌, ◌≤ℤ◌, All, Contains, ⊤, Result, Ok, Err}
+use Rattle.std.specs.Prelude.{◌≡◌, ℕ, zero, suc, ◌<◌, ◌≤◌, cond, nat_eq, List, [], ◌∷◌, ◌++◌, length, Option, None, Some, ℤ, pos, ◌+ℤ◌, ◌-ℤ◌, All, Contains, ⊤, Result, Ok, Err}
 use Rattle.std.specs.List.{slice_index_or}
 use Rattle.arrayvec.specs.ArrayVec.{ArrayVec as Items}
 use Rattle.sem_query.specs.declared.atom.Attr.{Attr}
@@ -12,6 +12,7 @@ use Rattle.plan_constraints.specs.Nodes.{has_node, place_of}
 use Rattle.plan_constraints.specs.PartConstraints.{of_prefix}
 use Rattle.plan_constraints.specs.Solutions.{IsSatisfiable, IsLeast, IsGreatest, HasNoLeast, HasNoGreatest, IsLowAnswer, IsHighAnswer}
 use Rattle.plan_closure.specs.Answers.{IsSmall, IsSolvedAt, at_nodes}
+pub use Rattle.fam_motions.specs.Values.{IsFarWithin}
 use Rattle.fam_fooling_sets.specs.Shown.{rows_in, arrivals}
 use Rattle.fam_fooling_sets.specs.declared.error.LowerError.{LowerError}
 use Rattle.fam_fooling_sets.specs.declared.error.LowerError.TheVariants as why
@@ -27,11 +28,6 @@ value_for None None number = pos number
 -- what is asked of a node: the value, and 0 of the node of no attribute
 abbrev pub target_for : ℕ → ℤ → ℤ
 target_for node value = cond (nat_eq node 0) (pos 0) value
-
--- within 10^18 either way
-pub record IsFarWithin (x : ℤ) : Type 0 where
-  pub low : neg_ℤ (pos 1000000000000000000) ≤ℤ x
-  pub high : x ≤ℤ pos 1000000000000000000
 
 -- the least and the greatest value of a node, of which at least one is not there
 abbrev pub AreEnds : List Constraint → ℕ → Option ℤ → Option ℤ → Type 0

@@ -7,6 +7,8 @@
 //! Where the part breaks the third condition, one solution is taken, and what lies beyond the constants is moved away from them, farther for each
 //! number: so the sides of a link pass each other, and a row fails with what asks for other numbers. With DISTINCT two links are needed that do so in
 //! both directions. Nothing is claimed of compact queries, of domains, and of pairs between streams.
+//!
+//! `moved_family` goes by no part: it takes the assignments of `fam_motions`, of which no mixtures satisfy the query, whatever the query is, or finds none.
 #![tactic(auto)]
 
 mod across;
@@ -17,6 +19,7 @@ pub mod laws;
 mod lowering;
 mod making;
 mod motion;
+mod moved;
 mod passing;
 mod point;
 mod searching;
@@ -24,3 +27,4 @@ mod searching;
 pub use error::LowerError;
 pub use family::{Asked, Family};
 pub use lowering::family_over;
+pub use moved::{FoundFamily, moved_family};

@@ -158,8 +158,8 @@ fn make_apart(
     let basis = Basis::new(q);
     let bounds = bounds_of(q, p, &basis);
     let ground = ground_of(q, p, &bounds, blanks, attr);
-    let mut room = basis.room();
-    let refs = refs(q, p, &basis, &mut room);
+    let mut distances = basis.begin();
+    let refs = refs(q, p, &basis, &mut distances);
     let motion = find_motion(q, p, &bounds, refs.less.as_slice(), attr, n);
     let mut m = Vec::new(alloc);
     let mut g = Vec::new(alloc);

@@ -1,13 +1,15 @@
 //! The rows of one number.
-ghost use Rattle.std.specs.Prelude.{◌≡◌, ◌<◌, ◌≤◌, length, slice_index_or, nat_eq, cond, ◌∷◌, ◌++◌, ◌+◌, ◌-◌, [], pos};
+ghost use Rattle.std.specs.Prelude.{◌≡◌, ◌<◌, ◌≤◌, All, length, slice_index_or, nat_eq, cond, ◌∷◌, ◌++◌, ◌+◌, ◌-◌, [], pos};
 ghost use Rattle.sem_query.specs.Meaning.{by_column};
 ghost use Rattle.fam_fooling_sets.specs.Members.{cell_for, row_for, blank_at, others_for, asked_for, IsFarWithin, IsGround, IsPoint, HasMember};
 ghost use Rattle.fam_fooling_sets.specs.Moving.{IsMotionFor, IsMovedMember};
+ghost use Rattle.fam_fooling_sets.specs.Drawing.{drawn_value, IsDrawnMember};
 ghost use Rattle.fam_fooling_sets.specs.Shown.{arrivals};
 
 use crate::family::Asked;
 use crate::ground::{Ground, solution, value_of};
 use crate::motion::{Motion, moved_values};
+use fam_motions::value_of as value_at;
 use plan_constraints::place_of;
 use sem_query::{Attr, Row};
 
@@ -187,6 +189,38 @@ pub fn moved_member(ground: &Ground, motion: &Motion, own: u8, number: u16) -> M
         ground,
         values,
         value: named_value(ground, values),
+    };
+    Member {
+        row: row_at(&point, own),
+        asked: asked_at(&point, own),
+    }
+}
+
+// The value of the column in which the rows differ: that of an attribute, or the number.
+fn drawn_value(ground: &Ground, values: &[i128], number: u16) -> i128
+    ensures { result ≡ drawn_value ground.now.attrs.now values.now ground.now.named number }
+{
+    let place = place_of(ground.attrs, ground.named);
+    if place < values.len() {
+        value_at(ground.attrs, values, ground.named)
+    } else {
+        i128::from(number)
+    }
+}
+
+/// Returns the row of a number at a place of FROM, and what asks for it, with these values of the attributes.
+pub fn drawn_member(ground: &Ground, values: &[i128], own: u8, number: u16) -> Member
+    requires values { length values.now ≡ length ground.now.attrs.now }
+    requires far { All IsFarWithin values.now }
+    requires many { length ground.now.from.now ≡ length ground.now.blanks.now }
+    requires few { length ground.now.from.now ≤ 4 }
+    requires own { own < length ground.now.from.now }
+    ensures { IsDrawnMember ground.now values.now own number result.row.items (arrivals result.asked.items) }
+{
+    let point = Point {
+        ground,
+        values,
+        value: drawn_value(ground, values, number),
     };
     Member {
         row: row_at(&point, own),

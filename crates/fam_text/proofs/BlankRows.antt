@@ -27,9 +27,10 @@ use Rattle.fam_fooling_sets.specs.declared.error.LowerError.{LowerError}
 use Rattle.fam_fooling_sets.specs.declared.error.LowerError.TheVariants as why
 use Rattle.fam_fooling_sets.specs.Family.{FamilyValue}
 use Rattle.fam_fooling_sets.specs.Blanks.{IsRead, AreBlanks, IsLike}
+use Rattle.fam_fooling_sets.specs.Drawing.{IsFamilyLike}
 use Rattle.fam_fooling_sets.specs.Lowered.{IsLikeBlank, LowersBroken, Lowers}
 use Rattle.fam_text.specs.Blank.{least, blank_row}
-use Rattle.fam_text.specs.Answer.{IsTakenRow, AnswersBroken, IsFamilyAnswer}
+use Rattle.fam_text.specs.Answer.{IsTakenRow, AnswersBroken, IsFamilyAnswer, IsFoundOver}
 
 least-lies : (ends : ℤ × ℤ) → ends.0 ≤ℤ ends.1 → (not (int_lt ends.0 ends.0) && not (int_lt ends.1 ends.0)) ≡ true
 least-lies ends l = grind (arith, ints, l)
@@ -209,3 +210,12 @@ module _ (streams : List Shape) (q : QueryValue) (named : HasNamed streams q) (i
   pub answered : (d : Decision) (n : ℕ) (result : Result FamilyValue LowerError) → Lowers q blanks d n result → IsFamilyAnswer streams q d n result
   answered decision.Bounded n result h = h
   answered (decision.Violation part condition a) n result h = broken condition a n result h
+
+  -- a family that is found
+  pub found-over : (condition : Condition) (a : Attr) (n : ℕ) (f : FamilyValue) → IsFamilyLike q blanks condition a n f → IsFoundOver streams q condition a n f
+  found-over condition a n f h = record {
+    column = column-of a (has-read a h.read);
+    family = h.family;
+    taken = record { rows = λ i l. taken _ (h.like.rows i l); asking = λ i l r c. taken r (h.like.asking i l r c) };
+    like = h.like;
+  }

@@ -9,6 +9,7 @@ use Rattle.sem_query.specs.declared.decision.Decision.TheVariants as decision
 use Rattle.sem_query.specs.Query.{QueryValue}
 use Rattle.sem_query.specs.Meaning.{Arrival}
 use Rattle.sql_catalog.specs.Streams.{Shape, shape_at, KeepsDomains}
+use Rattle.sql_parser.specs.Resolution.{IsColumnOf}
 use Rattle.fam_fooling_sets.specs.declared.error.LowerError.{LowerError}
 use Rattle.fam_fooling_sets.specs.declared.error.LowerError.TheVariants as why
 use Rattle.fam_fooling_sets.specs.Family.{FamilyValue, IsFamily, row_at, asking_at, as_arrival}
@@ -33,6 +34,13 @@ pub record AreTakenRows (streams : List Shape) (n : ℕ) (f : FamilyValue) : Typ
 pub record HasFamilyOver (streams : List Shape) (q : QueryValue) (condition : Condition) (a : Attr) (n : ℕ) (f : FamilyValue) : Type 0 where
   pub local : AreLocalFor q condition
   pub whole : IsWholeFor q condition
+  pub family : IsFamily q condition a n f
+  pub taken : AreTakenRows streams n f
+  pub like : AreLike q (map (blank_row streams) q.from) n f
+
+-- a family of so many rows for the column that is named with it, which the query reads; a session with the streams takes the rows
+pub record IsFoundOver (streams : List Shape) (q : QueryValue) (condition : Condition) (a : Attr) (n : ℕ) (f : FamilyValue) : Type 0 where
+  pub column : IsColumnOf streams q.from a
   pub family : IsFamily q condition a n f
   pub taken : AreTakenRows streams n f
   pub like : AreLike q (map (blank_row streams) q.from) n f

@@ -5,5 +5,5 @@ mod blank;
 mod making;
 mod printing;
 
-pub use making::family;
+pub use making::{family, found_family};
 pub use printing::write_rows;

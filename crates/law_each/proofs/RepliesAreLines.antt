@@ -23,7 +23,7 @@ use Rattle.sql_parser.specs.Resolution.{column_named}
 use Rattle.exec_registry.specs.Live.{LiveQuery, answers_of, base_in}
 use Rattle.sql_replies.specs.Texts.{condition_text, numbers_text, plan_text, verdict_text, which_text, word_text}
 use Rattle.sql_replies.specs.declared.refusal.Refusal.{Refusal}
-use Rattle.sql_replies.specs.declared.refusal.Refusal.TheVariants.{LineTooLong, Locked, Syntax, Limit, Duplicate, TooMany, UnknownStream, UnknownColumn, SelfJoin, UnknownQuery, Late, Arity, Value, Domain, RowLimit, WholeForm}
+use Rattle.sql_replies.specs.declared.refusal.Refusal.TheVariants.{LineTooLong, Locked, Syntax, Limit, Duplicate, TooMany, UnknownStream, UnknownColumn, SelfJoin, UnknownQuery, Late, Arity, Value, Domain, RowLimit}
 use Rattle.sql_catalog.specs.Streams.{Shape}
 use Rattle.cmd_session.specs.Answer.{Answer}
 use Rattle.cmd_session.specs.Answers.{IsAnswer, IsDecided, Settles, accepted, rejected}
@@ -61,7 +61,6 @@ word_inner Arity = refl
 word_inner Value = refl
 word_inner Domain = refl
 word_inner RowLimit = refl
-word_inner WholeForm = refl
 
 condition_inner : (c : Condition) → Inner (condition_text c)
 condition_inner C1 = refl

@@ -34,7 +34,6 @@ word_short refusals.Value = omega arith
 word_short refusals.Domain = omega arith
 word_short refusals.RowLimit = omega arith
 word_short refusals.Locked = omega arith
-word_short refusals.WholeForm = omega arith
 
 error_short : (n : ℕ) (word : Refusal) → n < 2 ^ 64 → length (codes "error " ++ decimal n ++ 32 ∷ word_text word ++ 10 ∷ []) ≤ 41
 error_short n word few =

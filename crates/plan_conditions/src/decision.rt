@@ -3,20 +3,26 @@ ghost use Rattle.std.specs.Prelude.{◌≡◌, ◌<◌, ◌^◌, length};
 ghost use Rattle.sem_query.specs.Parts.{IsPart, AreParts, sign_lists};
 ghost use Rattle.sem_query.specs.Verdict.{IsDecision};
 ghost use Rattle.sem_query.specs.FirstBreak.{IsFirstBreak};
-ghost use Rattle.plan_links.specs.Known.{IsBasis};
+ghost use Rattle.plan_links.specs.Known.{IsBasis, AreBegun};
 
 use crate::breaking::violation_of;
-use plan_closure::Distances;
-use plan_links::{Basis, refs};
+use plan_links::{Basis, PartDistances, refs};
 use sem_query::{Break, Decision, Part, Query};
 
 // The first condition that a part breaks.
-fn break_of(q: &Query, p: &Part, basis: &Basis, bounds: &mut Distances) -> Option<Break>
+fn break_of<'a>(
+    q: &Query,
+    p: &'a Part,
+    basis: &Basis,
+    distances: &mut PartDistances<'a>,
+) -> Option<Break>
     requires part { IsPart q.now p.now.signs.items }
     requires basis { IsBasis q.now basis.now }
-    ensures { IsFirstBreak q.now p.now.signs.items result }
+    requires begun { AreBegun q.now distances.old }
+    ensures found { IsFirstBreak q.now p.now.signs.items result }
+    ensures begun { AreBegun q.now distances.new }
 {
-    let refs = refs(q, p, basis, bounds);
+    let refs = refs(q, p, basis, distances);
     violation_of(q, p, &refs)
 }
 
@@ -31,9 +37,9 @@ pub fn decide(q: &Query, parts: &[Part]) -> Decision
         return Decision::Bounded;
     }
     let basis = Basis::new(q);
-    let mut bounds = basis.room();
+    let mut distances = basis.begin();
     for i in 0..parts.len() {
-        match break_of(q, &parts[i], &basis, &mut bounds) {
+        match break_of(q, &parts[i], &basis, &mut distances) {
             Some(found) => {
                 return Decision::Violation {
                     part: (i + 1) as u32,

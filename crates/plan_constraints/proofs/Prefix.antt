@@ -17,7 +17,7 @@ use Rattle.sem_query.specs.Query.{QueryValue, attr_lt, attrs_of, is_soft, IsWith
 use Rattle.sem_query.specs.Parts.{pairs}
 use Rattle.plan_constraints.specs.declared.constraint.Constraint.{Constraint}
 use Rattle.plan_constraints.specs.Nodes.{has_node, constraints_of}
-use Rattle.plan_constraints.specs.PartConstraints.{of_op, of_atoms, at_least, at_most, of_domain, of_base, of_signs, of_prefix, AddsSign}
+use Rattle.plan_constraints.specs.PartConstraints.{of_op, of_atoms, at_least, at_most, of_domain, of_base, of_signs, of_prefix}
 use Rattle.plan_constraints.specs.Solutions.{IsWithin}
 use Rattle.plan_constraints.proofs.NodeFacts.{length-constraints, node_has, node_there}
 use Rattle.plan_constraints.proofs.Link.{of_signs_more, of_no_signs}
@@ -72,17 +72,6 @@ prefix_more q pre p s h =
     ap (λ z. of_base q ++ z) (of_signs_more (attrs_of q.atoms) (pairs q) pre p s h)
     ∙ sym (append_assoc (of_base q) (of_signs (attrs_of q.atoms) (pairs q) pre) (constraints_of (attrs_of q.atoms) (element.Attr p.left) s p.right))
 
--- the constraints of the pair of the next sign are those that it adds
-pub adds_sign : (q : QueryValue) (ps : List Pair) (pre : List Sign) (s : Sign) (d : Pair) (i : ℕ) (cs : List Constraint) → ps ≡ pairs q → i ≡ length pre → i < length ps
-    → cs ≡ constraints_of (attrs_of q.atoms) (element.Attr (slice_index_or ps i d).left) s (slice_index_or ps i d).right → All (IsWithin (length (attrs_of q.atoms))) cs → AddsSign q pre s cs
-adds_sign q ps pre s d i cs e at l c w =
-    let is : slice_get (pairs q) (length pre) ≡ Some (slice_index_or ps i d) = subst (λ (z : List Pair). slice_get z (length pre) ≡ Some (slice_index_or ps i d)) e (subst (λ (n : ℕ). slice_get ps n ≡ Some (slice_index_or ps i d)) at (pair_at ps i d l)) in
-    record {
-      more = prefix_more q pre (slice_index_or ps i d) s is ∙ ap (λ z. of_prefix q pre ++ z) (sym c);
-      within = w;
-      few = subst (λ (z : List Constraint). length z ≤ 2) (sym c) (length-constraints (attrs_of q.atoms) (element.Attr (slice_index_or ps i d).left) s (slice_index_or ps i d).right);
-    }
-
 -- with no sign they are those of the comparisons and the domains
 pub of_no_prefix : (q : QueryValue) → of_prefix q [] ≡ of_base q
 of_no_prefix q = ap (λ z. of_base q ++ z) (of_no_signs (attrs_of q.atoms) (pairs q)) ∙ append-nil (of_base q)
@@ -106,7 +95,8 @@ atoms_few xs ts n = omega (arith, length-of_atoms xs (take n ts), short n ts)
     short (suc n) [] = omega arith
     short (suc n) (t ∷ ts) = omega (arith, short n ts)
 
-length-of_signs : (xs : List Attr) (ps : List Pair) (ss : List Sign) → length (of_signs xs ps ss) ≤ 2 * length ss
+-- the constraints of signs are at most two for each sign
+pub length-of_signs : (xs : List Attr) (ps : List Pair) (ss : List Sign) → length (of_signs xs ps ss) ≤ 2 * length ss
 length-of_signs xs [] ss = omega arith
 length-of_signs xs (p ∷ ps) [] = omega arith
 length-of_signs xs (p ∷ ps) (s ∷ ss) =
@@ -180,7 +170,3 @@ pub length-of_base : (q : QueryValue) → IsWithinLimits q → length (of_base q
 length-of_base q w =
     let a = few_nodes q.domains (ascends_from (λ (d e : Domain). attr_lt d.attr e.attr) q.domains w.ascending) (attrs_of q.atoms) in
     omega (arith, a, w.few_attrs, w.comparisons, length-of_atoms (attrs_of q.atoms) q.atoms, length-of_domains (attrs_of q.atoms) q.domains, length-append (of_atoms (attrs_of q.atoms) q.atoms) (flat_map (of_domain (attrs_of q.atoms)) q.domains))
-
-pub length-of_prefix : (q : QueryValue) → IsWithinLimits q → (ss : List Sign) → length (of_prefix q ss) + 2 * soft_in q.atoms ≤ 56 + 2 * length ss
-length-of_prefix q w ss =
-    omega (arith, length-of_base q w, length-of_signs (attrs_of q.atoms) (pairs q) ss, length-append (of_base q) (of_signs (attrs_of q.atoms) (pairs q) ss))

@@ -14,4 +14,5 @@ pub mod Listed
 pub mod Systems
 pub mod Rebased
 pub mod Told
-pub mod LessWork
+pub mod Cheaper
+mod FewParts

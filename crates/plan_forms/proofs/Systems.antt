@@ -1,22 +1,14 @@
 -- What the whole form of a part comes to.
-use Rattle.std.proofs.Common.{◌≡◌, List, Some, sym, ap₂, subst}
+use Rattle.std.proofs.Common.{Some}
 use Rattle.sem_query.specs.declared.atom.Attr.{Attr}
 use Rattle.sem_query.specs.declared.condition.Condition.TheVariants.{C3}
 use Rattle.sem_query.specs.declared.first_break.Break.{Break}
-use Rattle.sem_query.specs.declared.part.Pair.{Pair}
-use Rattle.sem_query.specs.declared.part.Sign.{Sign}
 use Rattle.sem_query.specs.FirstBreak.{IsFirst}
-use Rattle.sem_query.specs.Query.{QueryValue, IsWithinLimits}
-use Rattle.plan_split_pairs.specs.Pairs.{split_pairs}
-use Rattle.plan_split_pairs.specs.SplitParts.{IsSplitPart}
-use Rattle.sem_forms.specs.Split.{part_query}
+use Rattle.sem_query.specs.Query.{QueryValue}
 use Rattle.sem_forms.specs.SplitBreaks.{IsOpenDim, IsPartBreak}
 use Rattle.sem_forms.specs.SplitBreaks as breaks
-use Rattle.plan_split_parts.proofs.SignedPairs.{split_pairs_are_signed}
-use Rattle.sem_forms.proofs.PartQueries.{as_many_signs, parts_have_systems}
 use Rattle.sem_whole.proofs.Planned.{plans_tell_breaks}
-use Rattle.sem_whole.specs.Failing.{Contradicts}
-use Rattle.sem_whole.specs.Signed.{AreSignedPairs, IsWellFormed, with_signs}
+use Rattle.sem_whole.specs.Signed.{IsWellFormed}
 use Rattle.plan_whole_form.specs.declared.whole.WholePart.{WholePart}
 use Rattle.plan_whole_form.specs.Part.{form_of, IsWholePart, IsBroken}
 

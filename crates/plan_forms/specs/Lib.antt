@@ -8,3 +8,4 @@ pub mod Boxing
 pub mod Hulls
 pub mod Drafts
 pub mod Planned
+pub mod Few

@@ -15,6 +15,7 @@ mod boxing;
 mod drafting;
 mod equating;
 mod error;
+mod few;
 mod fitting;
 mod hulls;
 mod linking;

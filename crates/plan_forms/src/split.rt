@@ -14,8 +14,8 @@ use plan_split_parts::{Front, PartsError, form_fronts};
 use sem_query::{Pair, PartPlan, Plan, Query};
 use std::alloc::Global;
 
-// The plans of the parts that these fronts tell, or why there are none.
-fn drafts_of(
+/// Returns the plans of the parts that these fronts tell, or why there are none.
+pub fn drafts_of(
     alloc: Global,
     q: &Query,
     pairs: &[Pair],
@@ -63,8 +63,8 @@ fn split_form(alloc: Global, q: &Query) -> Result<PlanDraft, PartsRefusal>
     }
 }
 
-// The plan of the drafts with its numbers, or the first number that is above its limit.
-fn numbered(draft: PlanDraft) -> Result<Plan, PartsRefusal>
+/// Returns the plan of the drafts with its numbers, or the first number that is above its limit.
+pub fn numbered(draft: PlanDraft) -> Result<Plan, PartsRefusal>
     requires { length draft.parts.items ≤ 4096 }
     ensures { IsNumberedSplit draft result }
 {

@@ -48,10 +48,10 @@ fn drafted(alloc: Global, q: &Query, parts: &[Part]) -> Result<PlanDraft, Layout
         work: 0,
     };
     let basis = Basis::new(q);
-    let mut bounds = basis.room();
+    let mut distances = basis.begin();
     for i in 0..parts.len() {
         let part = &parts[i];
-        let refs = refs(q, part, &basis, &mut bounds);
+        let refs = refs(q, part, &basis, &mut distances);
         if let Some(found) = violation_of(q, part, &refs) {
             return Err(violation_at(i, found));
         }

@@ -1,6 +1,6 @@
 -- The constraints of a part, one after another.
-use Rattle.std.proofs.Common.{◌≡◌, ℕ, ◌+◌, ◌*◌, ◌<◌, ◌≤◌, List, [], ◌++◌, filter, length, length-append, take, All, slice_get, slice_index_or, pos, Some, refl, sym, ◌∙◌, ap, subst, arith}
-use Rattle.std.proofs.lemmas.List.{take_more, take_all, length-take-le, length-map}
+use Rattle.std.proofs.Common.{◌≡◌, ℕ, ◌+◌, ◌*◌, ◌<◌, ◌≤◌, List, [], ◌∷◌, ◌++◌, ap₂, get_or, filter, length, length-append, take, All, slice_get, slice_index_or, pos, Some, refl, sym, ◌∙◌, ap, subst, arith}
+use Rattle.std.proofs.lemmas.List.{take_more, take_all, take-take, length-take-le, length-map}
 use Rattle.plan_closure.specs.ChoiceValue.{ChoiceValue}
 use Rattle.plan_closure.specs.Choices.{IsChoice, AreChoices, chosen}
 use Rattle.plan_closure.proofs.Zips.{zip_length, zip_at}
@@ -73,3 +73,13 @@ within_for q ss i cs ds d a h = subst (λ (n : ℕ). All (IsWithin n) cs) (sym h
 
 pub known_by : (q : QueryValue) (ss : List Sign) (i : ℕ) (d : Distances) → IsPart q ss → IsWithinLimits q → length ss ≤ i → AreDistancesOf d (length (attrs_of q.atoms)) (of_prefix q (take i ss)) → AreKnown q ss d
 known_by q ss i d p w l h = record { part = p; within = w; few = w.few_attrs; distances = subst (λ (z : List Constraint). AreDistancesOf d (length (attrs_of q.atoms)) z) (ap (of_prefix q) (take_all i ss l)) h }
+
+-- ---- first signs
+
+-- one more sign that two lists share
+pub shared_more : (ss ts : List Sign) (i : ℕ) (s t : Sign) → i < length ss → i < length ts → get_or ss i s ≡ get_or ts i t → take i ss ≡ take i ts → take (i + 1) ss ≡ take (i + 1) ts
+shared_more ss ts i s t l m e h = take_more ss i s l ∙ ap₂ (λ xs x. xs ++ x ∷ []) h e ∙ sym (take_more ts i t m)
+
+-- fewer first signs are shared, too
+pub shared_fewer : (ss ts : List Sign) (n m : ℕ) → n ≤ m → take m ss ≡ take m ts → take n ss ≡ take n ts
+shared_fewer ss ts n m l h = sym (take-take n m ss l) ∙ ap (take n) h ∙ take-take n m ts l

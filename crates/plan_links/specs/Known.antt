@@ -11,6 +11,7 @@ use Rattle.plan_closure.specs.Choices.{AreChoices}
 use Rattle.plan_constraints.specs.PartConstraints.{of_base, of_prefix}
 use Rattle.plan_constraints.specs.Solutions.{IsWithin}
 use Rattle.plan_links.specs.BasisValue.{BasisValue}
+use Rattle.plan_links.specs.PartDistancesValue.{PartDistancesValue}
 use Rattle.plan_links.specs.Sifting.{AreLinksAcross}
 
 -- the bounds are those of a part of the query
@@ -27,6 +28,10 @@ pub record AreKnown (q : QueryValue) (s : List Sign) (d : Distances) : Type 0 wh
   pub within : IsWithinLimits q
   pub few : length (attrs_of q.atoms) ≤ 12
   pub distances : AreDistancesOf d (length (attrs_of q.atoms)) (of_prefix q s)
+
+-- the first distances are those of the first signs of the part that was read last
+abbrev pub AreBegun : QueryValue → PartDistancesValue → Type 0
+AreBegun q d = AreDistancesOf d.first (length (attrs_of q.atoms)) (of_prefix q (take d.count d.signs))
 
 -- the distances are those of the query's comparisons and domains, there is a choice for each of its pairs, and a link of each attribute with each of another stream
 pub record IsBasis (q : QueryValue) (b : BasisValue) : Type 0 where

@@ -1,4 +1,5 @@
 pub mod BasisValue
+pub mod PartDistancesValue
 pub mod Known
 pub mod Redundant
 pub mod Sifting

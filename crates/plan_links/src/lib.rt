@@ -15,7 +15,7 @@ mod reading;
 mod redundant;
 mod types;
 
-pub use known::{Basis, bounds_of};
+pub use known::{Basis, PartDistances, bounds_of};
 pub use range::Range;
 pub use reading::{has_left, has_right, refs};
 pub use types::Refs;

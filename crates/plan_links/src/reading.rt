@@ -5,12 +5,12 @@ ghost use Rattle.sem_query.specs.declared.atom.Attr.{Attr};
 ghost use Rattle.sem_query.specs.Query.{attrs_of};
 ghost use Rattle.sem_query.specs.Parts.{IsPart};
 ghost use Rattle.sem_query.specs.Links.{IsMinRef, IsMaxRef};
-ghost use Rattle.plan_links.specs.Known.{AreKnown, IsBasis};
+ghost use Rattle.plan_links.specs.Known.{AreKnown, AreBegun, IsBasis};
 ghost use Rattle.plan_links.specs.Sifting.{Sifts, AreInequalities};
 ghost use Rattle.plan_links.specs.Refs.{IsRange, AreRefs};
 
 use crate::classes::classes;
-use crate::known::{Basis, set_distances};
+use crate::known::{Basis, PartDistances, set_distances};
 use crate::links::{equalities, inequalities};
 use crate::range::{Range, range_at};
 use crate::types::Refs;
@@ -114,16 +114,17 @@ fn max_refs(q: &Query, p: &Part, ranges: &[Option<Range>], less: &[Link]) -> Arr
     list
 }
 
-/// Returns what holds in a part of the query. The distances are room to work in: what they hold before does not matter, and afterwards they
-/// are those of the part.
-pub fn refs(q: &Query, p: &Part, basis: &Basis, bounds: &mut Distances) -> Refs
+/// Returns what holds in a part of the query. The distances are those of a part that was read before, or of none, and afterwards those of this one.
+pub fn refs<'a>(q: &Query, p: &'a Part, basis: &Basis, distances: &mut PartDistances<'a>) -> Refs
     requires part { IsPart q.now p.now.signs.items }
     requires basis { IsBasis q.now basis.now }
+    requires begun { AreBegun q.now distances.old }
     ensures refs { AreRefs q.now p.now.signs.items result }
-    ensures bounds { AreKnown q.now p.now.signs.items bounds.new }
+    ensures begun { AreBegun q.now distances.new }
+    ensures known { AreKnown q.now p.now.signs.items distances.new.all }
 {
-    set_distances(q, p, basis, bounds);
-    let bounds = &*bounds;
+    set_distances(q, p, basis, distances);
+    let bounds = distances.all();
     let ranges = ranges(q, p, bounds);
     let less = inequalities(q, p, bounds, basis.links());
     let min_ref = min_refs(q, p, ranges.as_slice(), less.as_slice());

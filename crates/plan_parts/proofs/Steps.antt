@@ -18,14 +18,14 @@ use Rattle.plan_closure.specs.ChoiceValue.{ChoiceValue}
 use Rattle.plan_closure.specs.declared.distances.Distances.{Distances}
 use Rattle.plan_closure.specs.Choices.{IsChoice, AreChoices, chosen}
 use Rattle.plan_closure.specs.Shortest.{AreDistancesOf, AreDistances}
-use Rattle.plan_constraints.specs.Nodes.{nodes_of}
+use Rattle.plan_constraints.specs.Nodes.{constraints_of, nodes_of}
 use Rattle.plan_constraints.specs.PartConstraints.{AddsSign, of_base, of_prefix}
 use Rattle.plan_constraints.specs.Solutions.{IsWithin, Solves, IsSatisfiable, Implies}
 use Rattle.plan_closure.proofs.Zips.{zip_length, zip_at}
 use Rattle.plan_constraints.proofs.Joined.{solves_left, solves_right, solves_both, solves_implied}
 use Rattle.plan_constraints.proofs.Link.{signs_start}
-use Rattle.plan_constraints.proofs.NodeFacts.{Known, nodes_agree}
-use Rattle.plan_constraints.proofs.Prefix.{adds_sign, of_no_prefix}
+use Rattle.plan_constraints.proofs.NodeFacts.{Known, length-constraints, nodes_agree}
+use Rattle.plan_constraints.proofs.Prefix.{pair_at, prefix_more, of_no_prefix}
 use Rattle.plan_constraints.proofs.Feasible.{feasible_if, satisfiable_if, solves_if}
 use Rattle.std.specs.List.{list_any}
 use Rattle.plan_constraints.specs.Soft.{next_fails, denies_itself, SoftHold}
@@ -34,6 +34,17 @@ use Rattle.plan_constraints.proofs.Softly.{agree_more, soft_root, denied}
 
 -- ---- the pair of the next sign
 
+-- the constraints of the pair of the next sign are those that it adds
+adds_sign : (q : QueryValue) (pre : List Sign) (s : Sign) (d : Pair) (cs : List Constraint) → length pre < length (pairs q)
+    → cs ≡ constraints_of (attrs_of q.atoms) (element.Attr (slice_index_or (pairs q) (length pre) d).left) s (slice_index_or (pairs q) (length pre) d).right → All (IsWithin (length (attrs_of q.atoms))) cs → AddsSign q pre s cs
+adds_sign q pre s d cs l c w =
+    let p : Pair = slice_index_or (pairs q) (length pre) d in
+    record {
+      more = prefix_more q pre p s (pair_at (pairs q) (length pre) d l) ∙ ap (λ z. of_prefix q pre ++ z) (sym c);
+      within = w;
+      few = subst (λ (z : List Constraint). length z ≤ 2) (sym c) (length-constraints (attrs_of q.atoms) (element.Attr p.left) s p.right);
+    }
+
 -- what the pair of the next sign adds by that sign
 pub adds_choice : (q : QueryValue) (ps : List ChoiceValue) (pre : List Sign) (s : Sign) (d : ChoiceValue) (cs : List Constraint) → AreChoices q ps → length pre < length ps → cs ≡ chosen (slice_index_or ps (length pre) d) s → AddsSign q pre s cs
 adds_choice q ps pre s d cs h l e =
@@ -41,7 +52,7 @@ adds_choice q ps pre s d cs h l e =
     let n : length ps ≡ length (pairs q) = zip_length (IsChoice q) (pairs q) ps h in
     let m : length pre < length (pairs q) = omega (arith, l, n) in
     let k : IsChoice q (slice_index_or (pairs q) (length pre) p) (slice_index_or ps (length pre) d) = zip_at (IsChoice q) (pairs q) ps (length pre) p d h m in
-    adds_sign q (pairs q) pre s p (length pre) cs refl refl m (e ∙ k.says s) (subst (All (IsWithin (length (attrs_of q.atoms)))) (sym e) (k.within s))
+    adds_sign q pre s p cs m (e ∙ k.says s) (subst (All (IsWithin (length (attrs_of q.atoms)))) (sym e) (k.within s))
 
 -- the same, where the pair stands at the number of the signs
 pub adds_here : (q : QueryValue) (ps : List ChoiceValue) (pre : List Sign) (s : Sign) (choice : ChoiceValue) (i : ℕ) → AreChoices q ps → length pre ≡ i → i < length ps → choice ≡ slice_index_or ps i choice → AddsSign q pre s (chosen choice s)

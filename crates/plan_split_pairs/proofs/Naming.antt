@@ -16,7 +16,7 @@ use Rattle.sem_query.proofs.Has.{Has, first, later, Has-nil, Contains-from_has, 
 use Rattle.sem_query.proofs.Elements.{HasElement, SidesIn, sides_in}
 use Rattle.sem_query.proofs.FewPairs.{few_soft_pairs}
 use Rattle.sem_query.proofs.Once.{has_once, once_has, once_fewer}
-use Rattle.plan_split_pairs.specs.Outer.{given_integers, is_short, outer_integers}
+use Rattle.plan_split_pairs.specs.Outer.{given_integers, nearest_short, outer_integers}
 use Rattle.plan_split_pairs.specs.Ends.{has_both_ends}
 use Rattle.plan_split_pairs.specs.Pairs.{is_unlike, unlike_pair, are_beside, column_pairs, own_pairs, split_pairs}
 use Rattle.plan_split_pairs.specs.Laws.{IsColumnOrShort, IsNamed, SplitPairsAreNamed, is_of_another, FewPairsBetween, UnlikesArePairs}
@@ -51,14 +51,14 @@ fold_from (k ∷ ks) list z h = elim (fold_from ks (with_new int_lt k list) z h)
   | inr i ↦ inr (later i)
 ]
 
-short_from : (k : ℤ) → is_short k ≡ true → IsShort k
-short_from k h = record { low = grind (arith, ints); high = grind (arith, ints) }
+short_nearest : (k : ℤ) → IsShort (nearest_short k)
+short_nearest k = record { low = grind (arith, ints); high = grind (arith, ints) }
 
 -- an outer integer may be written
 outer_short : (q : QueryValue) (a : Attr) (k : ℤ) → Has (outer_integers q a) k → IsShort k
-outer_short q a k h = elim (fold_from (filter is_short (given_integers q a)) [] k h) [
+outer_short q a k h = elim (fold_from (map nearest_short (given_integers q a)) [] k h) [
   | inl i ↦ Has-nil i
-  | inr i ↦ short_from k (Has-filter_holds is_short (given_integers q a) k i)
+  | inr i ↦ (let r = Has-map_from nearest_short (given_integers q a) k i in subst IsShort r.2 (short_nearest r.0))
 ]
 
 -- ---- the pairs of a column

@@ -1,10 +1,11 @@
 -- What the loops over comparisons, domains and integers need.
-use Rattle.std.proofs.Common.{◌≡◌, ℕ, ◌≤◌, ◌<◌, ◌+◌, ℤ, int_lt, Bool, true, false, cond, List, [], ◌∷◌, ◌++◌, filter, length, take, get_or, slice_index_or, append-nil, length-append, Contains, Option, None, MatchOption, sym, ◌∙◌, ap, subst, arith}
+use Rattle.std.proofs.Common.{◌≡◌, ℕ, ◌≤◌, ◌<◌, ◌+◌, ℤ, int_lt, Bool, true, false, cond, List, [], ◌∷◌, ◌++◌, map, length, take, get_or, slice_index_or, append-nil, length-append, Contains, Option, None, MatchOption, sym, ◌∙◌, ap, subst, arith, FitsSigned, w64}
 use Rattle.std.specs.List.{flat_map}
-use Rattle.std.proofs.lemmas.List.{take_more}
+use Rattle.std.proofs.lemmas.Int.{ints}
+use Rattle.std.proofs.lemmas.List.{take_more, map-append}
 use Rattle.std.proofs.lemmas.List.Concat.{flat_map-append}
 use Rattle.std.proofs.lemmas.List.Sums.{fold_push}
-use Rattle.std.proofs.lemmas.List.Elements.{All-contains, Contains-get_or, filter-append}
+use Rattle.std.proofs.lemmas.List.Elements.{All-contains, Contains-get_or}
 use Rattle.sem_query.specs.declared.atom.Attr.{Attr}
 use Rattle.sem_query.specs.declared.atom.Atom.{Atom}
 use Rattle.sem_query.specs.declared.atom.Domain.{Domain}
@@ -15,7 +16,7 @@ use Rattle.sem_query.specs.Query.{QueryValue, with_new, attrs_of, consts_of, IsS
 use Rattle.sem_query.specs.Groups.{same_group}
 use Rattle.sem_query.proofs.Has.{Has, Has-from_contains, Contains-from_has}
 use Rattle.sem_query.proofs.Elements.{HasElement, SidesIn, sides_in}
-use Rattle.plan_split_pairs.specs.Outer.{flipped, outer_of, outer_in, is_short, ascending_once}
+use Rattle.plan_split_pairs.specs.Outer.{flipped, outer_of, outer_in, nearest_short, ascending_once}
 use Rattle.plan_split_pairs.specs.Listed.{IsShortSide, IsWrittenShort}
 
 short_side : (q : QueryValue) → IsWithinLimits q → (e : Element) → HasElement (attrs_of q.atoms) (consts_of q.atoms) e → IsShortSide e
@@ -46,18 +47,17 @@ put_longer x (y ∷ ys) = by (int_lt x y) (int_lt y x) (put_longer x ys)
 pub put_room : (x : ℤ) (ys : List ℤ) (i n : ℕ) → length ys ≤ i → i < n → n ≤ 56 → length (with_new int_lt x ys) ≤ 56
 put_room x ys i n l m h = omega (arith, put_longer x ys, l, m, h)
 
+-- the nearest integer of at most 15 digits is one of 64 bits
+pub near_fits : (k : ℤ) → FitsSigned w64 (nearest_short k)
+near_fits k = grind (arith, ints)
+
 -- a turn of the loop that puts integers in order
-module _ (ks : List ℤ) (i : ℕ) (k : ℤ) (more : take (i + 1) ks ≡ take i ks ++ k ∷ []) (list : List ℤ) (before : list ≡ ascending_once (filter is_short (take i ks))) where
-  kept : (b : Bool) → is_short k ≡ b → filter is_short (take (i + 1) ks) ≡ filter is_short (take i ks) ++ cond b (k ∷ []) []
-  kept b e = ap (filter is_short) more ∙ filter-append is_short (take i ks) (k ∷ []) ∙ ap (λ b. filter is_short (take i ks) ++ cond b (k ∷ []) []) e
-
-  pub put_more : is_short k ≡ true → (after : List ℤ) → after ≡ with_new int_lt k list → (after ≡ ascending_once (filter is_short (take (i + 1) ks)))
-  put_more e after f =
-      f ∙ ap (with_new int_lt k) before
-      ∙ sym (ap ascending_once (kept true e) ∙ fold_push (λ l x. with_new int_lt x l) [] (filter is_short (take i ks)) k)
-
-  pub put_none : is_short k ≡ false → (after : List ℤ) → after ≡ list → after ≡ ascending_once (filter is_short (take (i + 1) ks))
-  put_none e after f = f ∙ before ∙ sym (ap ascending_once (kept false e ∙ append-nil (filter is_short (take i ks))))
+pub put_more : (ks : List ℤ) (i : ℕ) (k : ℤ) → take (i + 1) ks ≡ take i ks ++ k ∷ [] → (list : List ℤ) → list ≡ ascending_once (map nearest_short (take i ks))
+    → (after : List ℤ) → after ≡ with_new int_lt (nearest_short k) list → after ≡ ascending_once (map nearest_short (take (i + 1) ks))
+put_more ks i k more list before after f =
+    f ∙ ap (with_new int_lt (nearest_short k)) before
+    ∙ sym (ap (λ l. ascending_once (map nearest_short l)) more ∙ ap ascending_once (map-append nearest_short (take i ks) (k ∷ []))
+    ∙ fold_push (λ l x. with_new int_lt x l) [] (map nearest_short (take i ks)) (nearest_short k))
 
 pub put_length : (x : ℤ) (list after : List ℤ) (i : ℕ) → length list ≤ i → after ≡ with_new int_lt x list → length after ≤ i + 1
 put_length x list after i l e = let n = ap length e in omega (arith, n, put_longer x list, l)
@@ -95,6 +95,3 @@ given_more q a i d list after l e n f = (moved, (let k = ap length f in omega (a
         ∙ sym (ap (flat_map (λ t. outer_in q.atoms a t.left t.op t.right)) (take_more q.atoms i d l)
         ∙ flat_map-append (λ t. outer_in q.atoms a t.left t.op t.right) (take i q.atoms) (t ∷ [])
         ∙ ap (λ z. flat_map (λ t. outer_in q.atoms a t.left t.op t.right) (take i q.atoms) ++ z) (append-nil (outer_in q.atoms a t.left t.op t.right)))
-
-pub put_same : (list after : List ℤ) (i : ℕ) → length list ≤ i → after ≡ list → length after ≤ i + 1
-put_same list after i l e = let n = ap length e in omega (arith, n, l)

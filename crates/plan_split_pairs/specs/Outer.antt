@@ -1,5 +1,5 @@
 -- The outer integers of a column: beyond them no comparison with an integer, and no domain, tells two values of its group apart.
-use Rattle.std.specs.Prelude.{ℤ, pos, neg_ℤ, ◌+ℤ◌, ◌-ℤ◌, int_lt, Bool, not, ◌&&◌, if◌then◌else◌, List, [], ◌∷◌, ◌++◌, filter}
+use Rattle.std.specs.Prelude.{ℤ, pos, neg_ℤ, ◌+ℤ◌, ◌-ℤ◌, int_lt, if◌then◌else◌, List, [], ◌∷◌, ◌++◌, map}
 use Rattle.std.specs.List.{flat_map, fold}
 use Rattle.sem_query.specs.declared.atom.Attr.{Attr}
 use Rattle.sem_query.specs.declared.atom.Atom.{Atom}
@@ -43,14 +43,14 @@ outside atoms a d = if same_group atoms a d.attr then (d.lo -ℤ pos 1) ∷ (d.h
 abbrev pub given_integers : QueryValue → Attr → List ℤ
 given_integers q a = flat_map (λ t. outer_in q.atoms a t.left t.op t.right) q.atoms ++ flat_map (outside q.atoms a) q.domains
 
--- whether an integer has at most 15 digits
-abbrev pub is_short : ℤ → Bool
-is_short k = not (int_lt k (neg_ℤ (pos 999999999999999))) && not (int_lt (pos 999999999999999) k)
+-- the nearest integer of at most 15 digits
+abbrev pub nearest_short : ℤ → ℤ
+nearest_short k = if int_lt k (neg_ℤ (pos 999999999999999)) then neg_ℤ (pos 999999999999999) else (if int_lt (pos 999999999999999) k then pos 999999999999999 else k)
 
 -- integers ascending, each once
 abbrev pub ascending_once : List ℤ → List ℤ
 ascending_once ks = fold (λ list k. with_new int_lt k list) [] ks
 
--- the outer integers of a column: those that may be written, ascending, each once
+-- the outer integers of a column: those given, in place of one of more than 15 digits the nearest that may be written, ascending, each once
 abbrev pub outer_integers : QueryValue → Attr → List ℤ
-outer_integers q a = ascending_once (filter is_short (given_integers q a))
+outer_integers q a = ascending_once (map nearest_short (given_integers q a))

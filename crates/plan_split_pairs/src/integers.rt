@@ -2,7 +2,7 @@
 ghost use Rattle.std.specs.Prelude.{◌≡◌, ◌+◌, ◌≤◌, ◌<◌, ◌++◌, if◌then◌else◌, ◌∷◌, [], length, take_while, int_lt, IsTrue};
 ghost use Rattle.sem_query.specs.Query.{with_new, IsShort};
 ghost use Rattle.sem_query.specs.Groups.{same_group};
-ghost use Rattle.plan_split_pairs.specs.Outer.{flipped, outer_of, outer_in, outside, given_integers, is_short, outer_integers};
+ghost use Rattle.plan_split_pairs.specs.Outer.{flipped, outer_of, outer_in, outside, given_integers, nearest_short, outer_integers};
 ghost use Rattle.plan_split_pairs.specs.Listed.{IsWrittenShort};
 
 use crate::groups::are_joined;
@@ -119,14 +119,14 @@ fn put_integer(integers: &mut ArrayVec<i64, 56>, value: i64)
     }
 }
 
-// Whether an integer has at most 15 digits.
-fn is_short(integer: i64) -> bool
-    ensures { result ≡ is_short integer }
+// The nearest integer of at most 15 digits.
+fn nearest_short(integer: i64) -> i64
+    ensures { result ≡ nearest_short integer }
 {
-    integer >= -999_999_999_999_999 && integer <= 999_999_999_999_999
+    integer.clamp(-999_999_999_999_999, 999_999_999_999_999)
 }
 
-/// Returns the outer integers of a column of a compact query, ascending, each once: those of at most 15 digits.
+/// Returns the outer integers of a column of a compact query, ascending, each once: in place of one of more than 15 digits the nearest that has no more.
 pub fn outer_integers(q: &Query, attr: Attr) -> ArrayVec<i64, 56>
     requires { IsTrue q.now.compact }
     ensures { result.items ≡ outer_integers q.now attr }
@@ -134,9 +134,7 @@ pub fn outer_integers(q: &Query, attr: Attr) -> ArrayVec<i64, 56>
     let given = given_integers(q, attr);
     let mut list = ArrayVec::new();
     'integers: for integer in given.as_slice() {
-        if is_short(*integer) {
-            put_integer(&mut list, *integer);
-        }
+        put_integer(&mut list, nearest_short(*integer));
     }
     list
 }

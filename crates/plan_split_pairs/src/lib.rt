@@ -17,4 +17,4 @@ mod pairs;
 mod unlike;
 
 pub use pairs::form_pairs;
-pub use unlike::unlike_pairs;
+pub use unlike::{is_unlike, unlike_pairs};

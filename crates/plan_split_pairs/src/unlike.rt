@@ -9,8 +9,8 @@ use crate::once::add_each;
 use arrayvec::ArrayVec;
 use sem_query::{Atom, Element, Op, Pair, Query, is_before};
 
-// Whether an operator is `<>`.
-fn is_unlike(op: Op) -> bool
+/// Returns whether an operator is `<>`.
+pub fn is_unlike(op: Op) -> bool
     ensures { result ≡ is_unlike op }
 {
     match op {

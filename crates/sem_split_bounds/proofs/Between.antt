@@ -1,8 +1,8 @@
 -- Of two columns of one group, of which one has an end and the other lacks it, an integer lies between them in each solution of a part.
-use Rattle.std.proofs.Common.{◌≡◌, ◌⊎◌, inl, inr, ℤ, pos, neg_ℤ, ◌+ℤ◌, ◌-ℤ◌, ◌≤ℤ◌, int_lt, List, [], ◌∷◌, ◌++◌, map, filter, Bool, true, false, cond, ◌&&◌, refl, sym, ap, ◌∙◌, subst, arith}
+use Rattle.std.proofs.Common.{◌≡◌, ◌⊎◌, inl, inr, ℤ, pos, neg_ℤ, ◌+ℤ◌, ◌-ℤ◌, ◌≤ℤ◌, List, [], ◌∷◌, ◌++◌, map, filter, Bool, true, false, not, cond, ◌&&◌, refl, sym, ap, ◌∙◌, subst, arith}
 use Rattle.std.proofs.lemmas.Int.{ints}
 use Rattle.std.proofs.lemmas.List.Elements.{All-contains}
-use Rattle.std.specs.List.{flat_map, fold, list_any}
+use Rattle.std.specs.List.{flat_map, list_any}
 use Rattle.sem_query.specs.declared.atom.Attr.{Attr}
 use Rattle.sem_query.specs.declared.atom.Atom.{Atom}
 use Rattle.sem_query.specs.declared.atom.Domain.{Domain}
@@ -14,30 +14,29 @@ use Rattle.sem_query.specs.declared.part.Sign.{Sign}
 use Rattle.sem_query.specs.Assignment.{Assignment, value}
 use Rattle.sem_query.specs.Groups.{group_of, same_group}
 use Rattle.sem_query.specs.Parts.{same_stream, pair, pair_of, sign_at}
-use Rattle.sem_query.specs.Query.{QueryValue, attrs_of, attr_eq, attr_lt, with_new, IsShort, IsWithinLimits}
-use Rattle.sem_query.proofs.Elements.{Separates, with_new-has_new, with_new-has_old}
-use Rattle.sem_query.proofs.Has.{Has, first, later, Has-nil, Contains-from_has, Has-append_left, Has-append_right, Has-append_cases, Has-flat_map, Has-flat_map_from, Has-map, Has-map_from, Has-filter, Has-filter_from, Has-filter_holds}
+use Rattle.sem_query.specs.Query.{QueryValue, attrs_of, attr_eq, attr_lt, IsShort, IsDomain, IsWithinLimits}
+use Rattle.sem_query.proofs.Has.{Has, first, later, Has-nil, Contains-from_has, Has-append_left, Has-append_right, Has-append_cases, Has-flat_map, Has-flat_map_from, Has-map, Has-map_from, Has-filter, Has-filter_holds}
 use Rattle.sem_query.proofs.Local.{lt_from_sign, eq_from_sign, gt_from_sign}
 use Rattle.sem_query.proofs.Once.{has_once, once_has}
 use Rattle.sem_query.proofs.OneGroup.{same_from, same_to, same_compared}
 use Rattle.sem_laws.proofs.Tests.{true_or_false, false_if, and-left, and-right, and-both, or-cases, any_from, attr_eq-is, attr_eq-itself, not_both}
-use Rattle.plan_split_pairs.specs.Outer.{flipped, outer_of, outer_in, outside, given_integers, is_short, outer_integers}
+use Rattle.plan_split_pairs.specs.Outer.{flipped, outer_of, outer_in, outside, given_integers, nearest_short, outer_integers}
+use Rattle.plan_split_pairs.specs.Listed.{IsShortSide}
 use Rattle.plan_split_pairs.specs.Ends.{is_upper, bounds_above, bounds_below, has_domain, has_both_ends}
 use Rattle.plan_split_pairs.specs.Pairs.{unlike_pair, are_beside, column_pairs, own_pairs, split_pairs}
-use Rattle.plan_split_pairs.specs.SplitParts.{IsSplitPart}
-use Rattle.plan_split_pairs.proofs.Naming.{unlikes_are_pairs}
+use Rattle.plan_split_pairs.proofs.Naming.{split_pairs_are_named, unlikes_are_pairs}
 use Rattle.plan_split_parts.proofs.Unlike.{one_pair}
 use Rattle.sem_whole.specs.System.{Difference, bounds_of, atom_bounds, domain_bounds, system, Bound, AreOneClass}
-use Rattle.sem_whole.specs.Signed.{op_of, said, all_said}
+use Rattle.sem_whole.specs.Signed.{op_of, said, all_said, with_signs}
 use Rattle.sem_whole.proofs.CutLaw.{class_itself}
 use Rattle.sem_whole.proofs.Signed.{said_from}
-use Rattle.sem_forms.specs.Split.{part_query}
 use Rattle.sem_lower_bounds.proofs.Possible.{Possible, possible, followed}
-use Rattle.sem_split_bounds.specs.Split.{HasRoomOutside}
+use Rattle.sem_split_bounds.proofs.Nearest.{outer_given, given_outer, under_nearest, over_nearest, nearest_itself, named_short, atom_short, difference_short}
 use Rattle.sem_split_bounds.proofs.Paths.{Leads, here, onward, system_tight, leads_bound}
 use Rattle.sem_split_bounds.proofs.Ends.{NoTop, NoBottom}
 use Rattle.sem_split_bounds.proofs.Reach.{Reach, ReachedBy, reach, reached-by}
 use Rattle.sem_split_bounds.proofs.Motions.{moved, moved_solves, two_blocks, blocks_first, blocks_ahead, blocks_behind}
+use Rattle.sem_split_bounds.proofs.Parts.{IsPart}
 use Rattle.sem_split_bounds.proofs.PartSolutions.{base_solves, signs_alike}
 use Rattle.sem_split_bounds.proofs.Standing.{sides_of}
 
@@ -139,57 +138,6 @@ ends_above a (element.Const k) o (element.Attr b) h =
     (r.0, k, flip_back o (element.Const k) (element.Attr b) r.0 r.1, r.2 ∙ ap (λ c. element.Attr c) (sym (attr_eq-is a b (and-left (attr_eq a b) (is_upper (flipped o)) h))), r.3)
 ends_above a (element.Attr b) o (element.Attr c) h = absurd cc
 ends_above a (element.Const j) o (element.Const k) h = absurd cc
-
--- ---- integers ascending, each once
-
-put_from : (x : ℤ) (ys : List ℤ) (z : ℤ) → Has (with_new int_lt x ys) z → (x ≡ z) ⊎ Has ys z
-put_from x [] z first = inl refl
-put_from x [] z (later h) = inr h
-put_from x (y ∷ ys) z h = by (int_lt x y) (int_lt y x) (with_new int_lt x ys) (put_from x ys z) h
-  where
-    one : (zs : List ℤ) (w : ℤ) → (Has zs w → (x ≡ w) ⊎ Has ys w) → Has (y ∷ zs) w → (x ≡ w) ⊎ Has (y ∷ ys) w
-    one zs w f first = inr first
-    one zs w f (later i) = elim (f i) [ inl e ↦ inl e | inr j ↦ inr (later j) ]
-
-    two : (w : ℤ) → Has (x ∷ y ∷ ys) w → (x ≡ w) ⊎ Has (y ∷ ys) w
-    two w first = inl refl
-    two w (later i) = inr i
-
-    by : (b c : Bool) (zs : List ℤ) → (Has zs z → (x ≡ z) ⊎ Has ys z) → Has (cond b (x ∷ y ∷ ys) (cond c (y ∷ zs) (y ∷ ys))) z → (x ≡ z) ⊎ Has (y ∷ ys) z
-    by true c zs f i = two z i
-    by false true zs f i = one zs z f i
-    by false false zs f i = inr i
-
-fold_from : (ks list : List ℤ) (z : ℤ) → Has (fold (λ list k. with_new int_lt k list) list ks) z → Has list z ⊎ Has ks z
-fold_from [] list z h = inl h
-fold_from (k ∷ ks) list z h = elim (fold_from ks (with_new int_lt k list) z h) [
-  | inl i ↦ (elim (put_from k list z i) [ inl e ↦ inr (subst (λ w. Has (k ∷ ks) w) e first) | inr j ↦ inl j ])
-  | inr i ↦ inr (later i)
-]
-
-int_separates : Separates int_lt
-int_separates x y p q = omega (arith, ints)
-
-fold_old : (ks list : List ℤ) (z : ℤ) → Has list z → Has (fold (λ list k. with_new int_lt k list) list ks) z
-fold_old [] list z h = h
-fold_old (k ∷ ks) list z h = fold_old ks (with_new int_lt k list) z (with_new-has_old int_lt k list z h)
-
-fold_has : (ks list : List ℤ) (z : ℤ) → Has ks z → Has (fold (λ list k. with_new int_lt k list) list ks) z
-fold_has [] list z h = elim h [ ]
-fold_has (k ∷ ks) list z first = fold_old ks (with_new int_lt k list) k (with_new-has_new int_lt int_separates k list)
-fold_has (k ∷ ks) list z (later h) = fold_has ks (with_new int_lt k list) z h
-
-short_told : (k : ℤ) → IsShort k → is_short k ≡ true
-short_told k s = let a = s.low in let b = s.high in grind (arith, ints, a, b)
-
-outer_given : (q : QueryValue) (a : Attr) (k : ℤ) → Has (outer_integers q a) k → Has (given_integers q a) k
-outer_given q a k h = elim (fold_from (filter is_short (given_integers q a)) [] k h) [
-  | inl i ↦ Has-nil i
-  | inr i ↦ Has-filter_from is_short (given_integers q a) k i
-]
-
-given_outer : (q : QueryValue) (a : Attr) (k : ℤ) → Has (given_integers q a) k → IsShort k → Has (outer_integers q a) k
-given_outer q a k h s = fold_has (filter is_short (given_integers q a)) [] k (Has-filter is_short (short_told k s) h)
 
 -- ---- what is given to a column
 
@@ -293,17 +241,17 @@ own_beside q (c ∷ rest) a b (later h) (later k) n e f i j = elim (own_beside q
 
 -- ---- the differences of a part
 
--- the difference is said by the sign of a split pair, by a comparison of the query, or by a domain
-pub data Source (q : QueryValue) (d : Difference) : Type 0 where
-  of_pair : (p : Pair) (s : Sign) → Has (split_pairs q) p → Has (atom_bounds (said p s)) d → Source q d
-  of_atom : (t : Atom) → Has q.atoms t → Has (atom_bounds t) d → Source q d
-  of_domain : (e : Domain) → Has q.domains e → Has (domain_bounds e) d → Source q d
+-- the difference is said by the sign of a pair of the part, by a comparison of the query, or by a domain
+pub data Source (q : QueryValue) (ps : List Pair) (d : Difference) : Type 0 where
+  of_pair : (p : Pair) (s : Sign) → Has ps p → Has (atom_bounds (said p s)) d → Source q ps d
+  of_atom : (t : Atom) → Has q.atoms t → Has (atom_bounds t) d → Source q ps d
+  of_domain : (e : Domain) → Has q.domains e → Has (domain_bounds e) d → Source q ps d
 
-pub source : (q : QueryValue) (ss : List Sign) (d : Difference) → Has (system (part_query q ss)) d → Source q d
-source q ss d h = elim (Has-append_cases (flat_map atom_bounds (all_said (split_pairs q) ss ++ q.atoms)) (flat_map domain_bounds q.domains) d h) [
-  | inl i ↦ (let r = Has-flat_map_from atom_bounds (all_said (split_pairs q) ss ++ q.atoms) d i in
-      elim (Has-append_cases (all_said (split_pairs q) ss) q.atoms r.0 r.1) [
-        | inl j ↦ (let m = said_from (split_pairs q) ss r.0 j in of_pair m.0 m.1 m.2 (subst (λ t. Has (atom_bounds t) d) (sym m.3) r.2))
+pub source : (q : QueryValue) (ps : List Pair) (ss : List Sign) (d : Difference) → Has (system (with_signs ps ss q)) d → Source q ps d
+source q ps ss d h = elim (Has-append_cases (flat_map atom_bounds (all_said ps ss ++ q.atoms)) (flat_map domain_bounds q.domains) d h) [
+  | inl i ↦ (let r = Has-flat_map_from atom_bounds (all_said ps ss ++ q.atoms) d i in
+      elim (Has-append_cases (all_said ps ss) q.atoms r.0 r.1) [
+        | inl j ↦ (let m = said_from ps ss r.0 j in of_pair m.0 m.1 m.2 (subst (λ t. Has (atom_bounds t) d) (sym m.3) r.2))
         | inr j ↦ of_atom r.0 j r.2
       ])
   | inr i ↦ (let r = Has-flat_map_from domain_bounds q.domains d i in of_domain r.0 r.1 r.2)
@@ -328,9 +276,9 @@ pub record BeginsUnder (ds : List Difference) (x : Attr) : Type 0 where
   pub right : of.right ≡ element.Attr at
   pub left : of.left ≡ element.Const integer
 
-module _ (q : QueryValue) (within : IsWithinLimits q) (ss : List Sign) (is : IsSplitPart q ss) where
+module _ (q : QueryValue) (within : IsWithinLimits q) (ps : List Pair) (ss : List Sign) (is : IsPart q ps ss) where
   abbrev ds : List Difference
-  ds = system (part_query q ss)
+  ds = system (with_signs ps ss q)
 
   abbrev u : Assignment
   u = is.one
@@ -345,8 +293,8 @@ module _ (q : QueryValue) (within : IsWithinLimits q) (ss : List Sign) (is : IsS
       raised f r =
           let t : ℤ = (h -ℤ u x) +ℤ pos 1 in
           let m : Attr → ℤ = two_blocks f f t (pos 0) in
-          let k = b u (base_solves q within ss is) in
-          let l = b (moved u m) (moved_solves ds u m (base_solves q within ss is) (blocks_ahead ds f f t (pos 0) r.ahead r.ahead (omega (arith, ints)) (omega (arith, ints, k)))) in
+          let k = b u (base_solves q within ps ss is) in
+          let l = b (moved u m) (moved_solves ds u m (base_solves q within ps ss is) (blocks_ahead ds f f t (pos 0) r.ahead r.ahead (omega (arith, ints)) (omega (arith, ints, k)))) in
           let e : m x ≡ t = blocks_first f f t (pos 0) x (r.all x here) in
           omega (arith, ints, k, l, e)
 
@@ -358,8 +306,8 @@ module _ (q : QueryValue) (within : IsWithinLimits q) (ss : List Sign) (is : IsS
       lowered f r =
           let t : ℤ = (h -ℤ u x) -ℤ pos 1 in
           let m : Attr → ℤ = two_blocks f f t (pos 0) in
-          let k = b u (base_solves q within ss is) in
-          let l = b (moved u m) (moved_solves ds u m (base_solves q within ss is) (blocks_behind ds f f t (pos 0) r.behind r.behind (omega (arith, ints)) (omega (arith, ints, k)))) in
+          let k = b u (base_solves q within ps ss is) in
+          let l = b (moved u m) (moved_solves ds u m (base_solves q within ps ss is) (blocks_behind ds f f t (pos 0) r.behind r.behind (omega (arith, ints)) (omega (arith, ints, k)))) in
           let e : m x ≡ t = blocks_first f f t (pos 0) x (r.all x here) in
           omega (arith, ints, k, l, e)
 
@@ -384,10 +332,10 @@ module _ (q : QueryValue) (within : IsWithinLimits q) (ss : List Sign) (is : IsS
     ]
   ]
 
-  difference_grouped : (d : Difference) → Source q d → (a b : Attr) → d.left ≡ element.Attr a → d.right ≡ element.Attr b → group_of q.atoms a ≡ group_of q.atoms b
+  difference_grouped : (d : Difference) → Source q ps d → (a b : Attr) → d.left ≡ element.Attr a → d.right ≡ element.Attr b → group_of q.atoms a ≡ group_of q.atoms b
   difference_grouped d (of_pair p s h k) a b l r = elim (sides_of (op_of s) (element.Attr p.left) p.right d k) [
-    | inl e ↦ subst (λ z. group_of q.atoms z ≡ group_of q.atoms b) (same_column p.left a (sym e.0 ∙ l)) (pair_grouped p h b (sym e.1 ∙ r))
-    | inr e ↦ subst (λ z. group_of q.atoms a ≡ group_of q.atoms z) (same_column p.left b (sym e.1 ∙ r)) (sym (pair_grouped p h a (sym e.0 ∙ l)))
+    | inl e ↦ subst (λ z. group_of q.atoms z ≡ group_of q.atoms b) (same_column p.left a (sym e.0 ∙ l)) (pair_grouped p (is.from p h) b (sym e.1 ∙ r))
+    | inr e ↦ subst (λ z. group_of q.atoms a ≡ group_of q.atoms z) (same_column p.left b (sym e.1 ∙ r)) (sym (pair_grouped p (is.from p h) a (sym e.0 ∙ l)))
   ]
   difference_grouped d (of_atom t h k) a b l r = elim (sides_of t.op t.left t.right d k) [
     | inl e ↦ same_compared q.atoms t a b h (sym e.0 ∙ l) (sym e.1 ∙ r)
@@ -402,15 +350,15 @@ module _ (q : QueryValue) (within : IsWithinLimits q) (ss : List Sign) (is : IsS
 
   pub leads_grouped : (x y : Attr) → Leads ds x y → group_of q.atoms x ≡ group_of q.atoms y
   leads_grouped x y here = refl
-  leads_grouped x y (onward {b = m} d h l r p) = difference_grouped d (source q ss d h) x m l r ∙ leads_grouped m y p
+  leads_grouped x y (onward {b = m} d h l r p) = difference_grouped d (source q ps ss d h) x m l r ∙ leads_grouped m y p
 
   -- ---- columns that have both ends by the text
 
   atom_there : (t : Atom) → Has q.atoms t → (d : Difference) → Has (atom_bounds t) d → Has ds d
-  atom_there t h d k = Has-append_left (flat_map domain_bounds q.domains) (Has-flat_map atom_bounds (all_said (split_pairs q) ss ++ q.atoms) t d (Has-append_right (all_said (split_pairs q) ss) h) k)
+  atom_there t h d k = Has-append_left (flat_map domain_bounds q.domains) (Has-flat_map atom_bounds (all_said ps ss ++ q.atoms) t d (Has-append_right (all_said ps ss) h) k)
 
   domain_there : (e : Domain) → Has q.domains e → (d : Difference) → Has (domain_bounds e) d → Has ds d
-  domain_there e h d k = Has-append_right (flat_map atom_bounds (all_said (split_pairs q) ss ++ q.atoms)) (Has-flat_map domain_bounds q.domains e d h k)
+  domain_there e h d k = Has-append_right (flat_map atom_bounds (all_said ps ss ++ q.atoms)) (Has-flat_map domain_bounds q.domains e d h k)
 
   above_bound : (d : Difference) → Has ds d → (z : Attr) (k n : ℤ) → d.left ≡ element.Attr z → d.right ≡ element.Const k → (d.by +ℤ k) ≤ℤ n → Bound ds (element.Attr z) (element.Const n) (pos 0)
   above_bound d h z k n l r m v s =
@@ -491,49 +439,84 @@ module _ (q : QueryValue) (within : IsWithinLimits q) (ss : List Sign) (is : IsS
   given_on_left y z k g t h r l = atom_given y t h (outer_of (flipped t.op) k)
       (subst (λ e. Has (outer_in q.atoms y e t.op t.right) (outer_of (flipped t.op) k)) (sym l) (subst (λ e. Has (outer_in q.atoms y (element.Const k) t.op e) (outer_of (flipped t.op) k)) (sym r) (given_left q.atoms y z t.op k g)))
 
-  -- the integer of a split pair
-  pair_given : (y z : Attr) (k : ℤ) → group_of q.atoms y ≡ group_of q.atoms z → (p : Pair) → Has (split_pairs q) p → p.left ≡ z → p.right ≡ element.Const k → Has (given_integers q y) k
+  -- the integers of comparisons, domains and split pairs have at most 15 digits
+  short_sides : (d : Difference) → Source q ps d → IsShortSide d.left × IsShortSide d.right
+  short_sides d (of_pair p s h o) =
+      difference_short (element.Attr p.left) p.right d tt (named_short (attrs_of q.atoms) p.right (split_pairs_are_named q within p (is.from p h)).right) (sides_of (op_of s) (element.Attr p.left) p.right d o)
+  short_sides d (of_atom t h o) = let w = atom_short q within t h in difference_short t.left t.right d w.left w.right (sides_of t.op t.left t.right d o)
+  short_sides d (of_domain e h o) = by d o
+    where
+      ends : IsDomain q e
+      ends = All-contains (IsDomain q) q.domains e within.domains (Contains-from_has q.domains e h)
+
+      by : (d : Difference) → Has (domain_bounds e) d → IsShortSide d.left × IsShortSide d.right
+      by d first = (ends.low, tt)
+      by d (later first) = (tt, ends.high)
+      by d (later (later j)) = Has-nil j
+
+  -- the integer of a split pair is the nearest to one that is given
+  pair_given : (y z : Attr) (k : ℤ) → group_of q.atoms y ≡ group_of q.atoms z → (p : Pair) → Has (split_pairs q) p → p.left ≡ z → p.right ≡ element.Const k
+      → (n : ℤ) × Has (given_integers q y) n × (nearest_short n ≡ k)
   pair_given y z k g p h l r = elim (from_pair p h) [
     | inl t ↦ elim (pair_sides t.0.left t.0.right p t.3) [
-      | inl s ↦ subst (λ o. Has (given_integers q y) (outer_of o k)) t.2 (given_on_right y z k g t.0 t.1 (s.0 ∙ ap (λ c. element.Attr c) l) (s.1 ∙ r))
-      | inr s ↦ subst (λ o. Has (given_integers q y) (outer_of (flipped o) k)) t.2 (given_on_left y z k g t.0 t.1 (s.0 ∙ ap (λ c. element.Attr c) l) (s.1 ∙ r))
+      | inl s ↦ (k, subst (λ o. Has (given_integers q y) (outer_of o k)) t.2 (given_on_right y z k g t.0 t.1 (s.0 ∙ ap (λ c. element.Attr c) l) (s.1 ∙ r)), itself)
+      | inr s ↦ (k, subst (λ o. Has (given_integers q y) (outer_of (flipped o) k)) t.2 (given_on_left y z k g t.0 t.1 (s.0 ∙ ap (λ c. element.Attr c) l) (s.1 ∙ r)), itself)
     ]
     | inr o ↦ elim o [
-      | inl i ↦ given_alike p.left y (ap (group_of q.atoms) l ∙ sym g) k (subst (λ j. Has (given_integers q p.left) j) (same_integer i.0 k (sym i.1 ∙ r)) (outer_given q p.left i.0 i.2))
+      | inl i ↦ (let e = outer_given q p.left i.0 i.2 in (e.0, given_alike p.left y (ap (group_of q.atoms) l ∙ sym g) e.0 e.1, e.2 ∙ same_integer i.0 k (sym i.1 ∙ r)))
       | inr c ↦ absurd (no_integer c.0 k (sym c.1 ∙ r))
     ]
   ]
+    where
+      itself : nearest_short k ≡ k
+      itself = nearest_itself k (subst IsShortSide r (named_short (attrs_of q.atoms) p.right (split_pairs_are_named q within p h).right))
 
   -- both sides of a difference between a column and an integer
   abbrev Above : Attr → Attr → Type 0
-  Above y z = (n : ℤ) × Has (given_integers q y) n × Bound ds (element.Attr z) (element.Const n) (pos 0)
+  Above y z = (n : ℤ) × Has (given_integers q y) n × Bound ds (element.Attr z) (element.Const (nearest_short n)) (pos 0)
 
   abbrev Below : Attr → Attr → Type 0
-  Below y z = (n : ℤ) × Has (given_integers q y) n × Bound ds (element.Const n) (element.Attr z) (pos 0)
+  Below y z = (n : ℤ) × Has (given_integers q y) n × Bound ds (element.Const (nearest_short n)) (element.Attr z) (pos 0)
 
-  above_source : (y z : Attr) → group_of q.atoms y ≡ group_of q.atoms z → (d : Difference) → Has ds d → (k : ℤ) → d.left ≡ element.Attr z → d.right ≡ element.Const k → Source q d → Above y z
-  above_source y z g d i k l r (of_pair p s h o) = elim (sides_of (op_of s) (element.Attr p.left) p.right d o) [
-    | inl e ↦ (let t = system_tight (part_query q ss) d i in
-        (k, pair_given y z k g p h (same_column p.left z (sym e.0 ∙ l)) (sym e.1 ∙ r), above_bound d i z k k l r (omega (arith, ints, t))))
+  -- an end of a difference, with the integer given of which it is at or under the nearest, and the mirror
+  above_near : (z : Attr) (d : Difference) → Has ds d → (k : ℤ) → d.left ≡ element.Attr z → d.right ≡ element.Const k → IsShort k
+      → (n : ℤ) → (d.by +ℤ k) ≤ℤ n → Bound ds (element.Attr z) (element.Const (nearest_short n)) (pos 0)
+  above_near z d i k l r s n m =
+      let t = system_tight (with_signs ps ss q) d i in above_bound d i z k (nearest_short n) l r (under_nearest (d.by +ℤ k) n k m (omega (arith, ints, t)) s)
+
+  below_near : (z : Attr) (d : Difference) → Has ds d → (k : ℤ) → d.left ≡ element.Const k → d.right ≡ element.Attr z → IsShort k
+      → (n : ℤ) → (n +ℤ d.by) ≤ℤ k → Bound ds (element.Const (nearest_short n)) (element.Attr z) (pos 0)
+  below_near z d i k l r s n m =
+      let t = system_tight (with_signs ps ss q) d i in
+      let e = over_nearest (k -ℤ d.by) n k (omega (arith, ints, m)) (omega (arith, ints, t)) s in
+      below_bound d i z k (nearest_short n) l r (omega (arith, ints, e))
+
+  above_source : (y z : Attr) → group_of q.atoms y ≡ group_of q.atoms z → (d : Difference) → Has ds d → (k : ℤ) → d.left ≡ element.Attr z → d.right ≡ element.Const k → IsShort k
+      → Source q ps d → Above y z
+  above_source y z g d i k l r w (of_pair p s h o) = elim (sides_of (op_of s) (element.Attr p.left) p.right d o) [
+    | inl e ↦ (let t = system_tight (with_signs ps ss q) d i in
+        let n = pair_given y z k g p (is.from p h) (same_column p.left z (sym e.0 ∙ l)) (sym e.1 ∙ r) in
+        let m = n.2 in
+        (n.0, n.1, above_bound d i z k (nearest_short n.0) l r (omega (arith, ints, t, m))))
     | inr e ↦ absurd (no_integer p.left k (sym e.1 ∙ r))
   ]
-  above_source y z g d i k l r (of_atom t h o) = elim (sides_of t.op t.left t.right d o) [
+  above_source y z g d i k l r w (of_atom t h o) = elim (sides_of t.op t.left t.right d o) [
     | inl e ↦ (let a : t.left ≡ element.Attr z = sym e.0 ∙ l in
         let b : t.right ≡ element.Const k = sym e.1 ∙ r in (
           outer_of t.op k,
           given_on_right y z k g t h a b,
-          above_bound d i z k (outer_of t.op k) l r
+          above_near z d i k l r w (outer_of t.op k)
               (outer_above t.op z k d (subst (λ x. Has (bounds_of t.op x (element.Const k)) d) a (subst (λ x. Has (bounds_of t.op t.left x) d) b o)) l),
         ))
     | inr e ↦ (let a : t.right ≡ element.Attr z = sym e.0 ∙ l in
         let b : t.left ≡ element.Const k = sym e.1 ∙ r in (
           outer_of (flipped t.op) k,
           given_on_left y z k g t h a b,
-          above_bound d i z k (outer_of (flipped t.op) k) l r
+          above_near z d i k l r w (outer_of (flipped t.op) k)
               (outer_above (flipped t.op) z k d (flip_on t.op (element.Const k) (element.Attr z) d (subst (λ x. Has (bounds_of t.op x (element.Attr z)) d) b (subst (λ x. Has (bounds_of t.op t.left x) d) a o))) l),
         ))
   ]
-  above_source y z g d i k l r (of_domain e h o) = by d o l r i
+  above_source y z g d i k l r w (of_domain e h o) = by d o l r i
     where
       by : (d : Difference) → Has (domain_bounds e) d → d.left ≡ element.Attr z → d.right ≡ element.Const k → Has ds d → Above y z
       by d first l r i = absurd cc
@@ -542,33 +525,36 @@ module _ (q : QueryValue) (within : IsWithinLimits q) (ss : List Sign) (is : IsS
           let there : e.hi ≡ k = same_integer e.hi k r in (
             e.hi +ℤ pos 1,
             domain_given y e h (e.hi +ℤ pos 1) (given_edges q.atoms y e (g ∙ sym (ap (group_of q.atoms) same))).1,
-            above_bound (difference (element.Attr e.attr) (element.Const e.hi) (pos 0)) i z k (e.hi +ℤ pos 1) l r (omega (arith, ints, there)),
+            above_near z (difference (element.Attr e.attr) (element.Const e.hi) (pos 0)) i k l r w (e.hi +ℤ pos 1) (omega (arith, ints, there)),
           )
       by d (later (later j)) l r i = Has-nil j
 
-  below_source : (y z : Attr) → group_of q.atoms y ≡ group_of q.atoms z → (d : Difference) → Has ds d → (k : ℤ) → d.left ≡ element.Const k → d.right ≡ element.Attr z → Source q d → Below y z
-  below_source y z g d i k l r (of_pair p s h o) = elim (sides_of (op_of s) (element.Attr p.left) p.right d o) [
+  below_source : (y z : Attr) → group_of q.atoms y ≡ group_of q.atoms z → (d : Difference) → Has ds d → (k : ℤ) → d.left ≡ element.Const k → d.right ≡ element.Attr z → IsShort k
+      → Source q ps d → Below y z
+  below_source y z g d i k l r w (of_pair p s h o) = elim (sides_of (op_of s) (element.Attr p.left) p.right d o) [
     | inl e ↦ absurd (no_integer p.left k (sym e.0 ∙ l))
-    | inr e ↦ (let t = system_tight (part_query q ss) d i in
-        (k, pair_given y z k g p h (same_column p.left z (sym e.1 ∙ r)) (sym e.0 ∙ l), below_bound d i z k k l r (omega (arith, ints, t))))
+    | inr e ↦ (let t = system_tight (with_signs ps ss q) d i in
+        let n = pair_given y z k g p (is.from p h) (same_column p.left z (sym e.1 ∙ r)) (sym e.0 ∙ l) in
+        let m = n.2 in
+        (n.0, n.1, below_bound d i z k (nearest_short n.0) l r (omega (arith, ints, t, m))))
   ]
-  below_source y z g d i k l r (of_atom t h o) = elim (sides_of t.op t.left t.right d o) [
+  below_source y z g d i k l r w (of_atom t h o) = elim (sides_of t.op t.left t.right d o) [
     | inl e ↦ (let a : t.right ≡ element.Attr z = sym e.1 ∙ r in
         let b : t.left ≡ element.Const k = sym e.0 ∙ l in (
           outer_of (flipped t.op) k,
           given_on_left y z k g t h a b,
-          below_bound d i z k (outer_of (flipped t.op) k) l r
+          below_near z d i k l r w (outer_of (flipped t.op) k)
               (outer_below (flipped t.op) z k d (flip_on t.op (element.Const k) (element.Attr z) d (subst (λ x. Has (bounds_of t.op x (element.Attr z)) d) b (subst (λ x. Has (bounds_of t.op t.left x) d) a o))) r),
         ))
     | inr e ↦ (let a : t.left ≡ element.Attr z = sym e.1 ∙ r in
         let b : t.right ≡ element.Const k = sym e.0 ∙ l in (
           outer_of t.op k,
           given_on_right y z k g t h a b,
-          below_bound d i z k (outer_of t.op k) l r
+          below_near z d i k l r w (outer_of t.op k)
               (outer_below t.op z k d (subst (λ x. Has (bounds_of t.op x (element.Const k)) d) a (subst (λ x. Has (bounds_of t.op t.left x) d) b o)) r),
         ))
   ]
-  below_source y z g d i k l r (of_domain e h o) = by d o l r i
+  below_source y z g d i k l r w (of_domain e h o) = by d o l r i
     where
       by : (d : Difference) → Has (domain_bounds e) d → d.left ≡ element.Const k → d.right ≡ element.Attr z → Has ds d → Below y z
       by d first l r i =
@@ -576,37 +562,37 @@ module _ (q : QueryValue) (within : IsWithinLimits q) (ss : List Sign) (is : IsS
           let there : e.lo ≡ k = same_integer e.lo k l in (
             e.lo -ℤ pos 1,
             domain_given y e h (e.lo -ℤ pos 1) (given_edges q.atoms y e (g ∙ sym (ap (group_of q.atoms) same))).0,
-            below_bound (difference (element.Const e.lo) (element.Attr e.attr) (pos 0)) i z k (e.lo -ℤ pos 1) l r (omega (arith, ints, there)),
+            below_near z (difference (element.Const e.lo) (element.Attr e.attr) (pos 0)) i k l r w (e.lo -ℤ pos 1) (omega (arith, ints, there)),
           )
       by d (later first) l r i = absurd cc
       by d (later (later j)) l r i = Has-nil j
 
   pub given_above : (y z : Attr) → group_of q.atoms y ≡ group_of q.atoms z → (d : Difference) → Has ds d → (k : ℤ) → d.left ≡ element.Attr z → d.right ≡ element.Const k
-      → (n : ℤ) × Has (given_integers q y) n × Bound ds (element.Attr z) (element.Const n) (pos 0)
-  given_above y z g d i k l r = above_source y z g d i k l r (source q ss d i)
+      → (n : ℤ) × Has (given_integers q y) n × Bound ds (element.Attr z) (element.Const (nearest_short n)) (pos 0)
+  given_above y z g d i k l r = let s = source q ps ss d i in above_source y z g d i k l r (subst IsShortSide r (short_sides d s).1) s
 
   pub given_below : (y z : Attr) → group_of q.atoms y ≡ group_of q.atoms z → (d : Difference) → Has ds d → (k : ℤ) → d.left ≡ element.Const k → d.right ≡ element.Attr z
-      → (n : ℤ) × Has (given_integers q y) n × Bound ds (element.Const n) (element.Attr z) (pos 0)
-  given_below y z g d i k l r = below_source y z g d i k l r (source q ss d i)
+      → (n : ℤ) × Has (given_integers q y) n × Bound ds (element.Const (nearest_short n)) (element.Attr z) (pos 0)
+  given_below y z g d i k l r = let s = source q ps ss d i in below_source y z g d i k l r (subst IsShortSide l (short_sides d s).0) s
 
   -- ---- the signs of own pairs
 
-  pub outer_pair : (y : Attr) → Has (attrs_of q.atoms) y → has_both_ends q y ≡ false → (k : ℤ) → Has (given_integers q y) k → IsShort k → Has (split_pairs q) (pair y (element.Const k))
-  outer_pair y h e k i s = has_once (flat_map unlike_pair q.atoms ++ own_pairs q (attrs_of q.atoms)) (pair y (element.Const k))
-      (Has-append_right (flat_map unlike_pair q.atoms) (own_integer q (attrs_of q.atoms) y k h e (given_outer q y k i s)))
+  pub outer_pair : (y : Attr) → Has (attrs_of q.atoms) y → has_both_ends q y ≡ false → (k : ℤ) → Has (given_integers q y) k → Has (split_pairs q) (pair y (element.Const (nearest_short k)))
+  outer_pair y h e k i = has_once (flat_map unlike_pair q.atoms ++ own_pairs q (attrs_of q.atoms)) (pair y (element.Const (nearest_short k)))
+      (Has-append_right (flat_map unlike_pair q.atoms) (own_integer q (attrs_of q.atoms) y (nearest_short k) h e (given_outer q y k i)))
 
   -- by the sign of a pair: below it in each solution, equal to it, or above it
-  pub signed : (p : Pair) → Has (split_pairs q) p
+  pub signed : (p : Pair) → Has ps p
       → Bound ds (element.Attr p.left) p.right (neg_ℤ (pos 1)) ⊎ (Bound ds p.right (element.Attr p.left) (neg_ℤ (pos 1)) ⊎ (Bound ds (element.Attr p.left) p.right (pos 0) × Bound ds p.right (element.Attr p.left) (pos 0)))
   signed p h = by (sign_at u p) refl
     where
       by : (s : Sign) → sign_at u p ≡ s
           → Bound ds (element.Attr p.left) p.right (neg_ℤ (pos 1)) ⊎ (Bound ds p.right (element.Attr p.left) (neg_ℤ (pos 1)) ⊎ (Bound ds (element.Attr p.left) p.right (pos 0) × Bound ds p.right (element.Attr p.left) (pos 0)))
-      by Sign.Lt e = inl (λ v m. let l = lt_from_sign (v p.left) (value p.right v) (signs_alike q within ss is v m p h ∙ e) in omega (arith, ints, l))
-      by Sign.Gt e = inr (inl (λ v m. let l = gt_from_sign (v p.left) (value p.right v) (signs_alike q within ss is v m p h ∙ e) in omega (arith, ints, l)))
+      by Sign.Lt e = inl (λ v m. let l = lt_from_sign (v p.left) (value p.right v) (signs_alike q within ps ss is v m p h ∙ e) in omega (arith, ints, l))
+      by Sign.Gt e = inr (inl (λ v m. let l = gt_from_sign (v p.left) (value p.right v) (signs_alike q within ps ss is v m p h ∙ e) in omega (arith, ints, l)))
       by Sign.Eq e = inr (inr (
-        λ v m. (let l = eq_from_sign (v p.left) (value p.right v) (signs_alike q within ss is v m p h ∙ e) in omega (arith, ints, l)),
-        λ v m. (let l = eq_from_sign (v p.left) (value p.right v) (signs_alike q within ss is v m p h ∙ e) in omega (arith, ints, l)),
+        λ v m. (let l = eq_from_sign (v p.left) (value p.right v) (signs_alike q within ps ss is v m p h ∙ e) in omega (arith, ints, l)),
+        λ v m. (let l = eq_from_sign (v p.left) (value p.right v) (signs_alike q within ps ss is v m p h ∙ e) in omega (arith, ints, l)),
       ))
 
   bound_wider : (x y : Element) (c : ℤ) → c ≤ℤ pos 0 → Bound ds x y c → Bound ds x y (pos 0)
@@ -614,7 +600,7 @@ module _ (q : QueryValue) (within : IsWithinLimits q) (ss : List Sign) (is : IsS
 
   -- a column without a greatest value stands over each outer integer, one without a least value under each
   over_outer : (y : Attr) (k : ℤ) → Has (split_pairs q) (pair y (element.Const k)) → NoTop ds y → Bound ds (element.Const (k +ℤ pos 1)) (element.Attr y) (pos 0)
-  over_outer y k h n = elim (signed (pair y (element.Const k)) h) [
+  over_outer y k h n = elim (signed (pair y (element.Const k)) (is.own (pair y (element.Const k)) h refl)) [
     | inl b ↦ absurd (n k (bound_wider (element.Attr y) (element.Const k) (neg_ℤ (pos 1)) (omega (arith, ints)) b))
     | inr o ↦ elim o [
       | inl b ↦ (λ v s. let l = b v s in omega (arith, ints, l))
@@ -623,7 +609,7 @@ module _ (q : QueryValue) (within : IsWithinLimits q) (ss : List Sign) (is : IsS
   ]
 
   under_outer : (y : Attr) (k : ℤ) → Has (split_pairs q) (pair y (element.Const k)) → NoBottom ds y → Bound ds (element.Attr y) (element.Const (k -ℤ pos 1)) (pos 0)
-  under_outer y k h n = elim (signed (pair y (element.Const k)) h) [
+  under_outer y k h n = elim (signed (pair y (element.Const k)) (is.own (pair y (element.Const k)) h refl)) [
     | inl b ↦ (λ v s. let l = b v s in omega (arith, ints, l))
     | inr o ↦ elim o [
       | inl b ↦ absurd (n k (bound_wider (element.Const k) (element.Attr y) (neg_ℤ (pos 1)) (omega (arith, ints)) b))
@@ -634,24 +620,21 @@ module _ (q : QueryValue) (within : IsWithinLimits q) (ss : List Sign) (is : IsS
   bound_on : (x y z : Element) → Bound ds x y (pos 0) → Bound ds y z (pos 0) → Bound ds x z (pos 0)
   bound_on x y z f g v s = let a = f v s in let b = g v s in omega (arith, ints, a, b)
 
-  room_for : HasRoomOutside q → (y : Attr) → Has (attrs_of q.atoms) y → (k : ℤ) → Has (given_integers q y) k → IsShort k
-  room_for room y h k i = All-contains IsShort (given_integers q y) k (room y (Contains-from_has (attrs_of q.atoms) y h)) (Contains-from_has (given_integers q y) k i)
-
   -- a column with a greatest value and one of its group without: an integer lies between
-  pub over_all : HasRoomOutside q → (x y : Attr) → Has (attrs_of q.atoms) y → group_of q.atoms x ≡ group_of q.atoms y → NoTop ds y → (h : ℤ) → Bound ds (element.Attr x) (element.Const h) (pos 0)
+  pub over_all : (x y : Attr) → Has (attrs_of q.atoms) y → group_of q.atoms x ≡ group_of q.atoms y → NoTop ds y → (h : ℤ) → Bound ds (element.Attr x) (element.Const h) (pos 0)
       → Possible ((k : ℤ) × Bound ds (element.Attr x) (element.Const k) (pos 0) × Bound ds (element.Const (k +ℤ pos 1)) (element.Attr y) (pos 0))
-  over_all room x y i g n h b = followed (ends_somewhere x h b) (λ e. (
+  over_all x y i g n h b = followed (ends_somewhere x h b) (λ e. (
       let r = given_above y e.at (sym g ∙ leads_grouped x e.at e.path) e.of e.among e.integer e.left e.right in
-      let p : Has (split_pairs q) (pair y (element.Const r.0)) = outer_pair y i (lacks_both y (inl n)) r.0 r.1 (room_for room y i r.0 r.1) in
-      possible (r.0, bound_on (element.Attr x) (element.Attr e.at) (element.Const r.0) (leads_bound (part_query q ss) x e.at e.path) r.2, over_outer y r.0 p n)))
+      let k = nearest_short r.0 in
+      possible (k, bound_on (element.Attr x) (element.Attr e.at) (element.Const k) (leads_bound (with_signs ps ss q) x e.at e.path) r.2, over_outer y k (outer_pair y i (lacks_both y (inl n)) r.0 r.1) n)))
 
   -- a column with a least value and one of its group without
-  pub under_all : HasRoomOutside q → (x y : Attr) → Has (attrs_of q.atoms) y → group_of q.atoms x ≡ group_of q.atoms y → NoBottom ds y → (l : ℤ) → Bound ds (element.Const l) (element.Attr x) (pos 0)
+  pub under_all : (x y : Attr) → Has (attrs_of q.atoms) y → group_of q.atoms x ≡ group_of q.atoms y → NoBottom ds y → (l : ℤ) → Bound ds (element.Const l) (element.Attr x) (pos 0)
       → Possible ((k : ℤ) × Bound ds (element.Const k) (element.Attr x) (pos 0) × Bound ds (element.Attr y) (element.Const (k -ℤ pos 1)) (pos 0))
-  under_all room x y i g n h b = followed (begins_somewhere x h b) (λ e. (
+  under_all x y i g n h b = followed (begins_somewhere x h b) (λ e. (
       let r = given_below y e.at (sym g ∙ sym (leads_grouped e.at x e.path)) e.of e.among e.integer e.left e.right in
-      let p : Has (split_pairs q) (pair y (element.Const r.0)) = outer_pair y i (lacks_both y (inr n)) r.0 r.1 (room_for room y i r.0 r.1) in
-      possible (r.0, bound_on (element.Const r.0) (element.Attr e.at) (element.Attr x) r.2 (leads_bound (part_query q ss) e.at x e.path), under_outer y r.0 p n)))
+      let k = nearest_short r.0 in
+      possible (k, bound_on (element.Const k) (element.Attr e.at) (element.Attr x) r.2 (leads_bound (with_signs ps ss q) e.at x e.path), under_outer y k (outer_pair y i (lacks_both y (inr n)) r.0 r.1) n)))
 
   -- two columns of one stream and group, each without an end: one is less in each solution, or they are of one class
   pub ordered : (x y : Attr) → Has (attrs_of q.atoms) x → Has (attrs_of q.atoms) y → x.stream ≡ y.stream → group_of q.atoms x ≡ group_of q.atoms y
@@ -660,11 +643,11 @@ module _ (q : QueryValue) (within : IsWithinLimits q) (ss : List Sign) (is : IsS
   ordered x y h i s g n m = elim (true_or_false (attr_eq x y)) [
     | inl e ↦ inr (inr (subst (AreOneClass ds x) (attr_eq-is x y e) (class_itself ds x)))
     | inr e ↦ elim (own_beside q (attrs_of q.atoms) x y h i (λ f. not_same f e) (lacks_both x n) (lacks_both y m) (beside x y s g) (beside y x (sym s) (sym g))) [
-      | inl p ↦ elim (signed (pair x (element.Attr y)) (among (pair x (element.Attr y)) p)) [
+      | inl p ↦ elim (signed (pair x (element.Attr y)) (among x y s p)) [
         | inl b ↦ inl b
         | inr o ↦ elim o [ inl b ↦ inr (inl b) | inr b ↦ inr (inr record { stream = s; below = b.0; above = b.1 }) ]
       ]
-      | inr p ↦ elim (signed (pair y (element.Attr x)) (among (pair y (element.Attr x)) p)) [
+      | inr p ↦ elim (signed (pair y (element.Attr x)) (among y x (sym s) p)) [
         | inl b ↦ inr (inl b)
         | inr o ↦ elim o [ inl b ↦ inl b | inr b ↦ inr (inr record { stream = s; below = b.1; above = b.0 }) ]
       ]
@@ -680,5 +663,6 @@ module _ (q : QueryValue) (within : IsWithinLimits q) (ss : List Sign) (is : IsS
       beside : (a b : Attr) → a.stream ≡ b.stream → group_of q.atoms a ≡ group_of q.atoms b → are_beside q a b ≡ true
       beside a b e f = and-both (same_stream a b) (same_group q.atoms a b) (stream_told a b e) (same_to q.atoms a b f)
 
-      among : (p : Pair) → Has (own_pairs q (attrs_of q.atoms)) p → Has (split_pairs q) p
-      among p k = has_once (flat_map unlike_pair q.atoms ++ own_pairs q (attrs_of q.atoms)) p (Has-append_right (flat_map unlike_pair q.atoms) k)
+      among : (a b : Attr) → a.stream ≡ b.stream → Has (own_pairs q (attrs_of q.atoms)) (pair a (element.Attr b)) → Has ps (pair a (element.Attr b))
+      among a b e k = is.own (pair a (element.Attr b)) (has_once (flat_map unlike_pair q.atoms ++ own_pairs q (attrs_of q.atoms)) (pair a (element.Attr b)) (Has-append_right (flat_map unlike_pair q.atoms) k))
+          (ap not (stream_told a b e))

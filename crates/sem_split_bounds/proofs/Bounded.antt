@@ -9,6 +9,7 @@ use Rattle.sem_query.specs.declared.atom.Op.{Op}
 use Rattle.sem_query.specs.declared.part.Sign.{Sign}
 use Rattle.sem_query.specs.Query.{QueryValue, IsWithinLimits}
 use Rattle.sem_query.proofs.Has.{Has}
+use Rattle.plan_split_pairs.specs.Pairs.{split_pairs}
 use Rattle.plan_split_pairs.specs.SplitParts.{IsSplitPart}
 use Rattle.sem_whole.specs.System.{Difference, system, Bound, AreOneClass}
 use Rattle.sem_whole.specs.Links.{AreLinks}
@@ -27,10 +28,10 @@ use Rattle.sem_forms.specs.Split.{part_query}
 use Rattle.sem_forms.specs.SplitBreaks.{LacksEnd, IsOpenDim}
 use Rattle.sem_forms.proofs.PartQueries.{part_queries_are_well_formed}
 use Rattle.sem_lower_bounds.proofs.Possible.{either}
-use Rattle.sem_split_bounds.specs.Split.{HasRoomOutside}
 use Rattle.sem_split_bounds.proofs.Paths.{Step, step_leads, leads_bound}
 use Rattle.sem_split_bounds.proofs.Ends.{NoTop, NoBottom, top_over, bottom_under, open_ends}
 use Rattle.sem_split_bounds.proofs.OpenLinks.{link_op, link_steps}
+use Rattle.sem_split_bounds.proofs.Parts.{split_part}
 use Rattle.sem_split_bounds.proofs.FreeSteps.{part_step_named}
 use Rattle.sem_split_bounds.proofs.UnlikeLinks.{no_unlike_link}
 use Rattle.sem_split_bounds.proofs.Between.{leads_grouped, over_all, under_all}
@@ -115,7 +116,7 @@ not_stuck ds o x y (inr e) high low l f g s = subst (λ o. Stuck ds o x y) e s h
 
 -- ---- a class whose own range lacks an end
 
-module _ (q : QueryValue) (within : IsWithinLimits q) (room : HasRoomOutside q) (ss : List Sign) (is : IsSplitPart q ss)
+module _ (q : QueryValue) (within : IsWithinLimits q) (ss : List Sign) (is : IsSplitPart q ss)
     (links : List Atom) (are : AreLinks (part_query q ss) links) (a : Attr) where
   abbrev r : QueryValue
   r = part_query q ss
@@ -139,8 +140,8 @@ module _ (q : QueryValue) (within : IsWithinLimits q) (room : HasRoomOutside q) 
       → NoTop ds y → (h : ℤ) → Bound ds (element.Attr x) (element.Const h) (pos 0) → ⊥
   right_ends t i o x y ex ey n h b =
       let s : Step ds x y = step t i x y ex ey in
-      let named = part_step_named q within ss is x y s in
-      over_all q within ss is room x y named.1 (leads_grouped q within ss is x y (step_leads ds x y s)) n h b
+      let named = part_step_named q within (split_pairs q) ss (split_part q within ss is) x y s in
+      over_all q within (split_pairs q) ss (split_part q within ss is) x y named.1 (leads_grouped q within (split_pairs q) ss (split_part q within ss is) x y (step_leads ds x y s)) n h b
       (λ k. no_integer t i o x y ex ey k.0 (k.0 +ℤ pos 1) (omega (arith, ints)) k.1 k.2)
 
   -- the right side has an end below, and so has the left one
@@ -148,8 +149,8 @@ module _ (q : QueryValue) (within : IsWithinLimits q) (room : HasRoomOutside q) 
       → NoBottom ds x → (l : ℤ) → Bound ds (element.Const l) (element.Attr y) (pos 0) → ⊥
   left_ends t i o x y ex ey n l b =
       let s : Step ds x y = step t i x y ex ey in
-      let named = part_step_named q within ss is x y s in
-      under_all q within ss is room y x named.0 (sym (leads_grouped q within ss is x y (step_leads ds x y s))) n l b
+      let named = part_step_named q within (split_pairs q) ss (split_part q within ss is) x y s in
+      under_all q within (split_pairs q) ss (split_part q within ss is) y x named.0 (sym (leads_grouped q within (split_pairs q) ss (split_part q within ss is) x y (step_leads ds x y s))) n l b
       (λ k. no_integer t i o x y ex ey (k.0 -ℤ pos 1) k.0 (omega (arith, ints)) k.2 k.1)
 
   module _ (other : IsKeptAsItIs r links a → ⊥) where
@@ -202,9 +203,9 @@ module _ (q : QueryValue) (within : IsWithinLimits q) (room : HasRoomOutside q) 
       open_own f = lacks f.lo f.hi record { low = subst (IsLowest ds a) f.low k.is_own.low; high = subst (IsHighest ds a) f.high k.is_own.high }
 
 -- no dim of a part that breaks no condition lacks an end
-pub no_open_dim : (q : QueryValue) → IsWithinLimits q → HasRoomOutside q → (ss : List Sign) → IsSplitPart q ss
+pub no_open_dim : (q : QueryValue) → IsWithinLimits q → (ss : List Sign) → IsSplitPart q ss
     → (f : Form) → IsWholePlan (part_query q ss) f → IsFirstWholeBreak (part_query q ss) f.links None → (a : Attr) → IsOpenDim (part_query q ss) f a → ⊥
-no_open_dim q within room ss is f plan unbroken a d =
+no_open_dim q within ss is f plan unbroken a d =
     let finite : IsFinite d.dim.range = (plans_tell_breaks (part_query q ss) (part_queries_are_well_formed q within ss is) f plan).1 unbroken d.place d.stream d.dim d.among in
     let planned : IsPlannedDim (part_query q ss) f.links d.place (f.keeps d.place).kind d.dim = (plan.streams d.place d.stream).dims d.dim d.among in
-    own_ends q within room ss is f.links plan.links d.dim.attr d.dim.range planned.range finite (subst (LacksEnd (part_query q ss)) (sym d.is) d.lacks)
+    own_ends q within ss is f.links plan.links d.dim.attr d.dim.range planned.range finite (subst (LacksEnd (part_query q ss)) (sym d.is) d.lacks)

@@ -15,14 +15,13 @@ use Rattle.sem_query.specs.Parts.{same_stream}
 use Rattle.sem_query.specs.Query.{QueryValue, IsWithinLimits, is_filter}
 use Rattle.sem_query.specs.Assignment.{Assignment, value, compares, meets, holds, projected}
 use Rattle.sem_query.specs.Tuples.{is_same}
-use Rattle.sem_query.proofs.Has.{Has, first, later, Has-append_left, Has-append_right, Has-flat_map, Contains-from_has, same_map}
+use Rattle.sem_query.proofs.Has.{Has, first, later, Has-append_left, Contains-from_has, same_map}
 use Rattle.sem_query.proofs.Holding.{Holds-each}
 use Rattle.sem_laws.proofs.Sums.{bit}
 use Rattle.sem_laws.proofs.Tests.{and-left, nat_true, true_or_false, false_if, not_both}
 use Rattle.plan_split_pairs.specs.Pairs.{split_pairs}
 use Rattle.plan_split_pairs.specs.SplitParts.{IsSplitPart}
-use Rattle.sem_whole.specs.System.{Difference, atom_bounds, domain_bounds, system, Solves}
-use Rattle.sem_whole.specs.Signed.{op_of}
+use Rattle.sem_whole.specs.System.{Difference, system, Solves}
 use Rattle.sem_forms.specs.Split.{part_query}
 use Rattle.sem_lower_bounds.specs.States.{NeedsStates}
 use Rattle.sem_lower_bounds.specs.Within.{as_comparisons, written}
@@ -34,11 +33,12 @@ use Rattle.sem_split_bounds.proofs.Paths.{Step, step_leads, leads_bound, here}
 use Rattle.sem_split_bounds.proofs.Ends.{Free, up, down, top_over, bottom_under}
 use Rattle.sem_split_bounds.proofs.Reach.{raised_with, lowered_with}
 use Rattle.sem_split_bounds.proofs.Motions.{moved, moved_solves, moved_near, two_blocks, blocks_first, blocks_neither, blocks_ahead, blocks_behind}
+use Rattle.sem_split_bounds.proofs.Parts.{split_part}
 use Rattle.sem_split_bounds.proofs.PartSolutions.{base_solves, solution_written}
-use Rattle.sem_split_bounds.proofs.Standing.{sides_of}
-use Rattle.sem_split_bounds.proofs.Between.{no_integer, same_column, pair_sides, Source, of_pair, of_atom, of_domain, source, from_pair}
+use Rattle.sem_split_bounds.proofs.Spacing.{spread_of, spread_over}
+use Rattle.sem_split_bounds.proofs.Between.{no_integer, same_column, pair_sides, from_pair}
 use Rattle.sem_split_bounds.proofs.MovedFamilies.{written_formed, open_step_needs, open_column_needs, place_of, two_places}
-use Rattle.sem_split_bounds.proofs.FreeSteps.{part_step_named}
+use Rattle.sem_split_bounds.proofs.FreeSteps.{IsPairOf, part_step_named, step_source}
 use Rattle.sem_split_bounds.proofs.TwoQuestions.{two-need}
 
 -- ---- the order of two integers
@@ -147,17 +147,6 @@ side place u f (element.Attr a) = record { near = nat_eq a.stream place; moves =
     at false false z k l = refl
 side place u f (element.Const c) = record { near = false; moves = false; is = λ k l. omega (arith, ints) }
 
--- as far as any side of some comparisons is from 0
-spread_of : Assignment → List Atom → ℕ
-spread_of u [] = 0
-spread_of u (t ∷ ts) = nat_abs (value t.left u) + nat_abs (value t.right u) + spread_of u ts
-
-spread_over : (u : Assignment) (ts : List Atom) (t : Atom) → Has ts t → (nat_abs (value t.left u) ≤ spread_of u ts) × (nat_abs (value t.right u) ≤ spread_of u ts)
-unfolding spread_of
-spread_over u [] t h = elim h [ ]
-spread_over u (r ∷ ts) t first = (omega arith, omega arith)
-spread_over u (r ∷ ts) t (later h) = let i = spread_over u ts t h in (omega (arith, i.0), omega (arith, i.1))
-
 same_tests : (t u : Atom → Bool) (ts : List Atom) → ((x : Atom) → Has ts x → t x ≡ u x) → list_all t ts ≡ list_all u ts
 same_tests t u [] h = refl
 same_tests t u (x ∷ xs) h = let e : t x ≡ u x = h x first in let f : list_all t xs ≡ list_all u xs = same_tests t u xs (λ y k. h y (later k)) in rw (e, f) refl
@@ -220,33 +209,28 @@ module _ (q : QueryValue) (within : IsWithinLimits q) (ss : List Sign) (is : IsS
   turned_sides x y u = record { of = u.of; among = u.among; unlike = u.unlike; sides = elim u.sides [ inl s ↦ inr s | inr s ↦ inl s ] }
 
   -- a split pair of two streams comes from one
-  pair_unlike : (p : Pair) → Has (split_pairs q) p → (a b : Attr) → p.left ≡ a → p.right ≡ element.Attr b → a.stream ≢ b.stream → Unlike a b
-  pair_unlike p h a b l r apart = elim (from_pair q within ss is p h) [
+  pair_unlike : (p : Pair) → Has (split_pairs q) p → (a b : Attr) → IsPairOf p a b → a.stream ≢ b.stream → Unlike a b
+  pair_unlike p h a b i apart = elim (from_pair q within (split_pairs q) ss (split_part q within ss is) p h) [
     | inl t ↦ elim (pair_sides t.0.left t.0.right p t.3) [
-      | inl s ↦ record { of = t.0; among = t.1; unlike = t.2; sides = inl (s.0 ∙ ap (λ c. element.Attr c) l, s.1 ∙ r) }
-      | inr s ↦ record { of = t.0; among = t.1; unlike = t.2; sides = inr (s.1 ∙ r, s.0 ∙ ap (λ c. element.Attr c) l) }
+      | inl s ↦ record { of = t.0; among = t.1; unlike = t.2; sides = inl (s.0 ∙ ap (λ c. element.Attr c) i.0, s.1 ∙ i.1) }
+      | inr s ↦ record { of = t.0; among = t.1; unlike = t.2; sides = inr (s.1 ∙ i.1, s.0 ∙ ap (λ c. element.Attr c) i.0) }
     ]
     | inr o ↦ elim o [
-      | inl k ↦ absurd (no_integer b k.0 (sym r ∙ k.1))
-      | inr c ↦ absurd (apart (ap (λ a. a.stream) (sym l) ∙ nat_true p.left.stream c.0.stream (and-left (same_stream p.left c.0) (same_group q.atoms p.left c.0) c.2)
-          ∙ ap (λ a. a.stream) (same_column c.0 b (sym c.1 ∙ r))))
+      | inl k ↦ absurd (no_integer b k.0 (sym i.1 ∙ k.1))
+      | inr c ↦ absurd (apart (ap (λ a. a.stream) (sym i.0) ∙ nat_true p.left.stream c.0.stream (and-left (same_stream p.left c.0) (same_group q.atoms p.left c.0) c.2)
+          ∙ ap (λ a. a.stream) (same_column c.0 b (sym c.1 ∙ i.1))))
     ]
   ]
 
   -- a difference between streams is one of the query, or the sign of one of its `<>`
-  step_source : (x y : Attr) → Step ds x y → Step (system q) x y ⊎ Unlike x y
-  step_source x y s = by (source q ss s.of s.among)
-    where
-      of_query : Has (system q) s.of → Step (system q) x y ⊎ Unlike x y
-      of_query h = inl record { of = s.of; among = h; left = s.left; right = s.right; across = s.across }
-
-      by : Source q s.of → Step (system q) x y ⊎ Unlike x y
-      by (of_pair p o h k) = inr (elim (sides_of (op_of o) (element.Attr p.left) p.right s.of k) [
-        | inl e ↦ pair_unlike p h x y (same_column p.left x (sym e.0 ∙ s.left)) (sym e.1 ∙ s.right) s.across
-        | inr e ↦ turned_sides x y (pair_unlike p h y x (same_column p.left y (sym e.1 ∙ s.right)) (sym e.0 ∙ s.left) (λ f. s.across (sym f)))
-      ])
-      by (of_atom t h k) = of_query (Has-append_left (flat_map domain_bounds q.domains) (Has-flat_map atom_bounds q.atoms t s.of h k))
-      by (of_domain e h k) = of_query (Has-append_right (flat_map atom_bounds q.atoms) (Has-flat_map domain_bounds q.domains e s.of h k))
+  step_or_unlike : (x y : Attr) → Step ds x y → Step (system q) x y ⊎ Unlike x y
+  step_or_unlike x y s = elim (step_source q within (split_pairs q) ss (split_part q within ss is) x y s) [
+    | inl o ↦ inl o
+    | inr p ↦ inr (elim p.2 [
+      | inl e ↦ pair_unlike p.0 p.1 x y e s.across
+      | inr e ↦ turned_sides x y (pair_unlike p.0 p.1 y x e (λ f. s.across (sym f)))
+    ])
+  ]
 
   -- ---- two questions to each number
 
@@ -328,34 +312,34 @@ module _ (q : QueryValue) (within : IsWithinLimits q) (ss : List Sign) (is : IsS
 
   -- without DISTINCT one difference is enough
   pub counted_step_needs : IsFalse (is_filter q) → q.distinct ≡ false → (x y : Attr) → Step ds x y → Free ds x y → NeedsStates (written q)
-  counted_step_needs joins d x y t free n = elim (step_source x y t) [
-    | inl o ↦ open_step_needs q within ss is d x y t o free n
+  counted_step_needs joins d x y t free n = elim (step_or_unlike x y t) [
+    | inl o ↦ open_step_needs q within (split_pairs q) ss (split_part q within ss is) d x y t o free n
     | inr u ↦ by u free
   ]
     where
       named : x.stream < length q.from
-      named = place_of q within x (part_step_named q within ss is x y t).0
+      named = place_of q within x (part_step_named q within (split_pairs q) ss (split_part q within ss is) x y t).0
 
       two : 1 < length q.from
-      two = two_places x.stream y.stream (length q.from) t.across named (place_of q within y (part_step_named q within ss is x y t).1)
+      two = two_places x.stream y.stream (length q.from) t.across named (place_of q within y (part_step_named q within (split_pairs q) ss (split_part q within ss is) x y t).1)
 
       by : Unlike x y → Free ds x y → ⊥
       by u (up h) = raised_with (part_query q ss) x h (λ f.
           level_needs d x y t.across named two u f.0 (f.1.all x here) (f.1.all y (step_leads ds x y t))
-          (λ a i. false_if (f.0 a) (λ e. open_column_needs q within ss is joins a (Contains-from_has q.select a i)
+          (λ a i. false_if (f.0 a) (λ e. open_column_needs q within (split_pairs q) ss (split_part q within ss is) joins a (Contains-from_has q.select a i)
           (inl (top_over ds x a (pos 0) (leads_bound (part_query q ss) x a (f.1.only a e)) h)) n))
           (λ i. pos (suc i * suc (4 * s)))
-          (λ i. moved_solves ds is.one (two_blocks f.0 f.0 (pos (suc i * suc (4 * s))) (pos (suc i * suc (4 * s)))) (base_solves q within ss is)
+          (λ i. moved_solves ds is.one (two_blocks f.0 f.0 (pos (suc i * suc (4 * s))) (pos (suc i * suc (4 * s)))) (base_solves q within (split_pairs q) ss (split_part q within ss is))
           (blocks_ahead ds f.0 f.0 (pos (suc i * suc (4 * s))) (pos (suc i * suc (4 * s))) f.1.ahead f.1.ahead (omega (arith, ints)) (omega (arith, ints))))
           (λ i. inl (step_far s i))
           (λ i j o. elim (either_less i j o) [ inl l ↦ inl (steps_apart s i j l) | inr l ↦ inr (let m = steps_apart s j i l in omega (arith, ints, m)) ])
           (λ i. omega (arith, ints)) n)
       by u (down h) = lowered_with (part_query q ss) y h (λ f.
           level_needs d x y t.across named two u f.0 (f.1.all x (step_leads ds x y t)) (f.1.all y here)
-          (λ a i. false_if (f.0 a) (λ e. open_column_needs q within ss is joins a (Contains-from_has q.select a i)
+          (λ a i. false_if (f.0 a) (λ e. open_column_needs q within (split_pairs q) ss (split_part q within ss is) joins a (Contains-from_has q.select a i)
           (inr (bottom_under ds a y (pos 0) (leads_bound (part_query q ss) a y (f.1.only a e)) h)) n))
           (λ i. neg_ℤ (pos (suc i * suc (4 * s))))
-          (λ i. moved_solves ds is.one (two_blocks f.0 f.0 (neg_ℤ (pos (suc i * suc (4 * s)))) (neg_ℤ (pos (suc i * suc (4 * s))))) (base_solves q within ss is)
+          (λ i. moved_solves ds is.one (two_blocks f.0 f.0 (neg_ℤ (pos (suc i * suc (4 * s)))) (neg_ℤ (pos (suc i * suc (4 * s))))) (base_solves q within (split_pairs q) ss (split_part q within ss is))
           (blocks_behind ds f.0 f.0 (neg_ℤ (pos (suc i * suc (4 * s)))) (neg_ℤ (pos (suc i * suc (4 * s)))) f.1.behind f.1.behind (omega (arith, ints)) (omega (arith, ints))))
           (λ i. inr (let m = step_far s i in omega (arith, ints, m)))
           (λ i j o. elim (either_less i j o) [ inl l ↦ inr (let m = steps_apart s i j l in omega (arith, ints, m)) | inr l ↦ inl (let m = steps_apart s j i l in omega (arith, ints, m)) ])

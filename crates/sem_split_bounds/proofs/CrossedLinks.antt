@@ -6,24 +6,24 @@ use Rattle.sem_query.specs.declared.atom.Attr.{Attr}
 use Rattle.sem_query.specs.declared.atom.Element.{Element}
 use Rattle.sem_query.specs.declared.atom.Element.TheVariants as element
 use Rattle.sem_query.specs.declared.atom.Op.{Op}
+use Rattle.sem_query.specs.declared.part.Pair.{Pair}
 use Rattle.sem_query.specs.declared.part.Sign.{Sign}
 use Rattle.sem_query.specs.Assignment.{value}
 use Rattle.sem_query.specs.Groups.{group_of}
 use Rattle.sem_query.specs.Query.{QueryValue, IsWithinLimits, attrs_of}
 use Rattle.sem_query.proofs.Has.{Has, first, later, Has-nil}
-use Rattle.plan_split_pairs.specs.SplitParts.{IsSplitPart}
 use Rattle.sem_whole.specs.System.{Difference, bounds_of, atom_bounds, system, Bound, IsOf, AreOneClass}
 use Rattle.sem_whole.specs.Links as between
 use Rattle.sem_whole.specs.Links.{AreOfOne, Follows, Goes, AreLinks}
-use Rattle.sem_forms.specs.Split.{part_query}
+use Rattle.sem_whole.specs.Signed.{with_signs}
 use Rattle.sem_lower_bounds.specs.States.{NeedsStates}
 use Rattle.sem_lower_bounds.specs.Within.{written}
 use Rattle.sem_lower_bounds.proofs.Possible.{either}
-use Rattle.sem_split_bounds.specs.Split.{HasClosedUnlikes, HasRoomOutside}
 use Rattle.sem_split_bounds.proofs.Paths.{bounds_tight, Leads, Step, step_leads, leads_bound, leads_more, leaving}
 use Rattle.sem_split_bounds.proofs.Ends.{NoTop, NoBottom, Free, up, down, top_over, bottom_under}
+use Rattle.sem_split_bounds.proofs.Parts.{IsPart}
 use Rattle.sem_split_bounds.proofs.PartSolutions.{base_solves}
-use Rattle.sem_split_bounds.proofs.FreeSteps.{part_step_named}
+use Rattle.sem_split_bounds.proofs.FreeSteps.{AreOfQuery, part_step_named}
 use Rattle.sem_split_bounds.proofs.OpenLinks.{strict_not_unlike, link_steps, OpenLink}
 use Rattle.sem_split_bounds.proofs.MovedFamilies.{both_sides_need}
 use Rattle.sem_split_bounds.proofs.OpposedFamilies.{Side, at_left, at_right, OneSide, lefts, rights, OtherSides, left_right, right_left, OneEnd, apart_need, beside_need}
@@ -63,8 +63,9 @@ pub record IsStrict (links : List Atom) (x y : Attr) : Type 0 where
   pub left : one.left ≡ element.Attr x
   pub right : one.right ≡ element.Attr y
 
-pub open_strict : (r : QueryValue) (links : List Atom) (a : Attr) (l : OpenLink r links a) → IsStrict links l.x l.y
-open_strict r links a l = record { one = l.link; among = l.among; strict = l.strict_or; left = l.left; right = l.right }
+-- an open link of some of the links is one of them all
+pub open_strict : (r : QueryValue) (all links : List Atom) → ((t : Atom) → Has links t → Has all t) → (a : Attr) (l : OpenLink r links a) → IsStrict all l.x l.y
+open_strict r all links from a l = record { one = l.link; among = from l.link l.among; strict = l.strict_or; left = l.left; right = l.right }
 
 pub strict_step : (r : QueryValue) (links : List Atom) → AreLinks r links → (x y : Attr) → IsStrict links x y → Step (system r) x y
 strict_step r links are x y k = link_steps r links are k.one k.among x y k.left k.right (strict_not_unlike k.one.op k.strict)
@@ -76,10 +77,10 @@ strict_bound r links are x y k = leads_bound r x y (step_leads (system r) x y (s
 abbrev pub AreApart : List Difference → ℕ → Attr → Attr → Attr → Attr → Type 0
 AreApart ds place x1 y1 x2 y2 = (x1.stream ≡ place → x2.stream ≡ place → AreOneClass ds x1 x2 → ⊥) × (y1.stream ≡ place → y2.stream ≡ place → AreOneClass ds y1 y2 → ⊥)
 
-module _ (q : QueryValue) (within : IsWithinLimits q) (ss : List Sign) (is : IsSplitPart q ss) (closed : HasClosedUnlikes q)
-    (links : List Atom) (are : AreLinks (part_query q ss) links) where
+module _ (q : QueryValue) (within : IsWithinLimits q) (ps : List Pair) (ss : List Sign) (is : IsPart q ps ss) (steps : AreOfQuery q ps ss)
+    (links : List Atom) (are : AreLinks (with_signs ps ss q) links) where
   abbrev ds : List Difference
-  ds = system (part_query q ss)
+  ds = system (with_signs ps ss q)
 
   -- ---- a link that stays
 
@@ -88,7 +89,7 @@ module _ (q : QueryValue) (within : IsWithinLimits q) (ss : List Sign) (is : IsS
       → StandsFor ds links z w → x.stream ≡ z.stream → w.stream ≡ y.stream → (one two : ℤ)
       → Bound ds (element.Attr x) (element.Attr z) one → Bound ds (element.Attr w) (element.Attr y) two → (one +ℤ two) ≤ℤ neg_ℤ (pos 1) → ⊥
   stuck_beside t h o x y z w ex ey s e f one two b g l =
-      let k : (ts : List Atom) × Has ts s.one × (Goes ds ts t → ⊥) = link_beside (part_query q ss) links are t s.one h s.among other in
+      let k : (ts : List Atom) × Has ts s.one × (Goes ds ts t → ⊥) = link_beside (with_signs ps ss q) links are t s.one h s.among other in
       k.2 (between.bounds (strict_not_unlike t.op o) (λ d i. follows k.0 k.1 d (strict_says t.op t.left t.right d o i)))
     where
       other : t ≡ s.one → ⊥
@@ -97,10 +98,10 @@ module _ (q : QueryValue) (within : IsWithinLimits q) (ss : List Sign) (is : IsS
           = strict_says t.op t.left t.right s.of o (subst (λ t. Has (atom_bounds t) s.of) (sym i) s.says) in
           let a : is.one s.left ≡ is.one x = ap (λ e. value e is.one) (sym s.is_left ∙ m.0 ∙ ex) in
           let c : is.one s.right ≡ is.one y = ap (λ e. value e is.one) (sym s.is_right ∙ m.1 ∙ ey) in
-          let n1 = b is.one (base_solves q within ss is) in
-          let n2 = s.before is.one (base_solves q within ss is) in
-          let n3 = s.after is.one (base_solves q within ss is) in
-          let n4 = g is.one (base_solves q within ss is) in
+          let n1 = b is.one (base_solves q within ps ss is) in
+          let n2 = s.before is.one (base_solves q within ps ss is) in
+          let n3 = s.after is.one (base_solves q within ps ss is) in
+          let n4 = g is.one (base_solves q within ps ss is) in
           omega (arith, ints, a, c, n1, n2, n3, n4, l)
 
       before : Bound ds (element.Attr x) s.of.left one
@@ -123,7 +124,7 @@ module _ (q : QueryValue) (within : IsWithinLimits q) (ss : List Sign) (is : IsS
   path_needs x y n p free then m = elim (leaving ds x y p) [
     | inl e ↦ absurd (n e)
     | inr l ↦ elim (leaving ds l.1 y l.5) [
-      | inl e ↦ step_stands (part_query q ss) is.one (base_solves q within ss is) links are l.0 l.1 l.4 (kept_free l.0 l.1 l.2 l.5) (λ s.
+      | inl e ↦ step_stands (with_signs ps ss q) is.one (base_solves q within ps ss is) links are l.0 l.1 l.4 (kept_free l.0 l.1 l.2 l.5) (λ s.
           then record {
             one = s.one;
             among = s.among;
@@ -134,11 +135,11 @@ module _ (q : QueryValue) (within : IsWithinLimits q) (ss : List Sign) (is : IsS
             is_left = s.is_left;
             is_right = s.is_right;
             leaves = sym l.3 ∙ s.leaves;
-            before = λ v o. (let a = leads_bound (part_query q ss) x l.0 l.2 v o in let b = s.before v o in omega (arith, ints, a, b));
+            before = λ v o. (let a = leads_bound (with_signs ps ss q) x l.0 l.2 v o in let b = s.before v o in omega (arith, ints, a, b));
             enters = s.enters ∙ e;
-            after = λ v o. (let a = s.after v o in let b = leads_bound (part_query q ss) l.1 y l.5 v o in omega (arith, ints, a, b));
+            after = λ v o. (let a = s.after v o in let b = leads_bound (with_signs ps ss q) l.1 y l.5 v o in omega (arith, ints, a, b));
           } m)
-      | inr k ↦ both_sides_need q within ss is closed l.1.stream k.0 k.1 l.0 l.1 k.4 l.4 k.3 refl
+      | inr k ↦ both_sides_need q within ps ss is steps l.1.stream k.0 k.1 l.0 l.1 k.4 l.4 k.3 refl
           (both_free k.0 k.1 l.0 l.1 (leads_more ds x l.1 k.0 (leads_more ds x l.0 l.1 l.2 (step_leads ds l.0 l.1 l.4)) k.2) k.5 l.2 l.5) m
     ]
   ]
@@ -147,28 +148,28 @@ module _ (q : QueryValue) (within : IsWithinLimits q) (ss : List Sign) (is : IsS
       kept_free a b l r = by free
         where
           by : Free ds x y → Free ds a b
-          by (up t) = up (top_over ds x a (pos 0) (leads_bound (part_query q ss) x a l) t)
-          by (down t) = down (bottom_under ds b y (pos 0) (leads_bound (part_query q ss) b y r) t)
+          by (up t) = up (top_over ds x a (pos 0) (leads_bound (with_signs ps ss q) x a l) t)
+          by (down t) = down (bottom_under ds b y (pos 0) (leads_bound (with_signs ps ss q) b y r) t)
 
       both_free : (a b c d : Attr) → Leads ds x a → Leads ds b y → Leads ds x c → Leads ds d y → OneEnd ds a b c d
       both_free a b c d l1 r1 l2 r2 = by free
         where
           by : Free ds x y → OneEnd ds a b c d
-          by (up t) = inl (top_over ds x a (pos 0) (leads_bound (part_query q ss) x a l1) t, top_over ds x c (pos 0) (leads_bound (part_query q ss) x c l2) t)
-          by (down t) = inr (bottom_under ds b y (pos 0) (leads_bound (part_query q ss) b y r1) t, bottom_under ds d y (pos 0) (leads_bound (part_query q ss) d y r2) t)
+          by (up t) = inl (top_over ds x a (pos 0) (leads_bound (with_signs ps ss q) x a l1) t, top_over ds x c (pos 0) (leads_bound (with_signs ps ss q) x c l2) t)
+          by (down t) = inr (bottom_under ds b y (pos 0) (leads_bound (with_signs ps ss q) b y r1) t, bottom_under ds d y (pos 0) (leads_bound (with_signs ps ss q) d y r2) t)
 
   -- ---- two links at one stream
 
   pub strict_named : (x y : Attr) → IsStrict links x y → Has (attrs_of q.atoms) x × Has (attrs_of q.atoms) y
-  strict_named x y k = part_step_named q within ss is x y (strict_step (part_query q ss) links are x y k)
+  strict_named x y k = part_step_named q within ps ss is x y (strict_step (with_signs ps ss q) links are x y k)
 
   pub strict_grouped : (x y : Attr) → IsStrict links x y → group_of q.atoms x ≡ group_of q.atoms y
-  strict_grouped x y k = leads_grouped q within ss is x y (step_leads ds x y (strict_step (part_query q ss) links are x y k))
+  strict_grouped x y k = leads_grouped q within ps ss is x y (step_leads ds x y (strict_step (with_signs ps ss q) links are x y k))
 
   module _ (x1 y1 x2 y2 : Attr) (k1 : IsStrict links x1 y1) (k2 : IsStrict links x2 y2) where
     -- the left side of the first is less than that of the second, which leads to the right side of the first
     cross_lefts : x1.stream ≡ x2.stream → OneEnd ds x1 y1 x2 y2 → Bound ds (element.Attr x1) (element.Attr x2) (neg_ℤ (pos 1)) → Leads ds x2 y1 → NeedsStates (written q)
-    cross_lefts e end b p = path_needs x2 y1 (λ f. (strict_step (part_query q ss) links are x1 y1 k1).across (e ∙ f)) p (by end) (λ s.
+    cross_lefts e end b p = path_needs x2 y1 (λ f. (strict_step (with_signs ps ss q) links are x1 y1 k1).across (e ∙ f)) p (by end) (λ s.
         absurd (stuck_beside k1.one k1.among k1.strict x1 y1 x2 y1 k1.left k1.right s e refl (neg_ℤ (pos 1)) (pos 0) b (λ v m. omega (arith, ints)) (omega (arith, ints))))
       where
         by : OneEnd ds x1 y1 x2 y2 → Free ds x2 y1
@@ -177,7 +178,7 @@ module _ (q : QueryValue) (within : IsWithinLimits q) (ss : List Sign) (is : IsS
 
     -- or the right side of the first is less than that of the second
     cross_rights : y1.stream ≡ y2.stream → OneEnd ds x1 y1 x2 y2 → Bound ds (element.Attr y1) (element.Attr y2) (neg_ℤ (pos 1)) → Leads ds x2 y1 → NeedsStates (written q)
-    cross_rights e end b p = path_needs x2 y1 (λ f. (strict_step (part_query q ss) links are x2 y2 k2).across (f ∙ e)) p (by end) (λ s.
+    cross_rights e end b p = path_needs x2 y1 (λ f. (strict_step (with_signs ps ss q) links are x2 y2 k2).across (f ∙ e)) p (by end) (λ s.
         absurd (stuck_beside k2.one k2.among k2.strict x2 y2 x2 y1 k2.left k2.right s refl e (pos 0) (neg_ℤ (pos 1)) (λ v m. omega (arith, ints)) b (omega (arith, ints))))
       where
         by : OneEnd ds x1 y1 x2 y2 → Free ds x2 y1
@@ -188,7 +189,7 @@ module _ (q : QueryValue) (within : IsWithinLimits q) (ss : List Sign) (is : IsS
     -- the left side of each leads to the right side of the other
     pub links_cross : OneSide place x1 y1 x2 y2 → OneEnd ds x1 y1 x2 y2 → AreApart ds place x1 y1 x2 y2 → Leads ds x2 y1 → Leads ds x1 y2 → NeedsStates (written q)
     links_cross (lefts e f) end apart p r =
-        elim (ordered q within ss is x1 x2 (strict_named x1 y1 k1).0 (strict_named x2 y2 k2).0 (e ∙ sym f) (strict_grouped x1 y1 k1 ∙ sym (leads_grouped q within ss is x2 y1 p)) (first_end end) (second_end end)) [
+        elim (ordered q within ps ss is x1 x2 (strict_named x1 y1 k1).0 (strict_named x2 y2 k2).0 (e ∙ sym f) (strict_grouped x1 y1 k1 ∙ sym (leads_grouped q within ps ss is x2 y1 p)) (first_end end) (second_end end)) [
           | inl b ↦ cross_lefts x1 y1 x2 y2 k1 k2 (e ∙ sym f) end b p
           | inr o ↦ elim o [
             | inl b ↦ cross_lefts x2 y2 x1 y1 k2 k1 (f ∙ sym e) (turned_end ds x1 y1 x2 y2 end) b r
@@ -198,13 +199,13 @@ module _ (q : QueryValue) (within : IsWithinLimits q) (ss : List Sign) (is : IsS
       where
         first_end : OneEnd ds x1 y1 x2 y2 → NoTop ds x1 ⊎ NoBottom ds x1
         first_end (inl t) = inl t.0
-        first_end (inr t) = inr (bottom_under ds x1 y1 (pos 0) (strict_bound (part_query q ss) links are x1 y1 k1) t.0)
+        first_end (inr t) = inr (bottom_under ds x1 y1 (pos 0) (strict_bound (with_signs ps ss q) links are x1 y1 k1) t.0)
 
         second_end : OneEnd ds x1 y1 x2 y2 → NoTop ds x2 ⊎ NoBottom ds x2
         second_end (inl t) = inl t.1
-        second_end (inr t) = inr (bottom_under ds x2 y2 (pos 0) (strict_bound (part_query q ss) links are x2 y2 k2) t.1)
+        second_end (inr t) = inr (bottom_under ds x2 y2 (pos 0) (strict_bound (with_signs ps ss q) links are x2 y2 k2) t.1)
     links_cross (rights e f) end apart p r =
-        elim (ordered q within ss is y1 y2 (strict_named x1 y1 k1).1 (strict_named x2 y2 k2).1 (e ∙ sym f) (sym (leads_grouped q within ss is x2 y1 p) ∙ strict_grouped x2 y2 k2) (first_end end) (second_end end)) [
+        elim (ordered q within ps ss is y1 y2 (strict_named x1 y1 k1).1 (strict_named x2 y2 k2).1 (e ∙ sym f) (sym (leads_grouped q within ps ss is x2 y1 p) ∙ strict_grouped x2 y2 k2) (first_end end) (second_end end)) [
           | inl b ↦ cross_rights x1 y1 x2 y2 k1 k2 (e ∙ sym f) end b p
           | inr o ↦ elim o [
             | inl b ↦ cross_rights x2 y2 x1 y1 k2 k1 (f ∙ sym e) (turned_end ds x1 y1 x2 y2 end) b r
@@ -213,11 +214,11 @@ module _ (q : QueryValue) (within : IsWithinLimits q) (ss : List Sign) (is : IsS
         ]
       where
         first_end : OneEnd ds x1 y1 x2 y2 → NoTop ds y1 ⊎ NoBottom ds y1
-        first_end (inl t) = inl (top_over ds x1 y1 (pos 0) (strict_bound (part_query q ss) links are x1 y1 k1) t.0)
+        first_end (inl t) = inl (top_over ds x1 y1 (pos 0) (strict_bound (with_signs ps ss q) links are x1 y1 k1) t.0)
         first_end (inr t) = inr t.0
 
         second_end : OneEnd ds x1 y1 x2 y2 → NoTop ds y2 ⊎ NoBottom ds y2
-        second_end (inl t) = inl (top_over ds x2 y2 (pos 0) (strict_bound (part_query q ss) links are x2 y2 k2) t.1)
+        second_end (inl t) = inl (top_over ds x2 y2 (pos 0) (strict_bound (with_signs ps ss q) links are x2 y2 k2) t.1)
         second_end (inr t) = inr t.1
 
     module _ (distinct : q.distinct ≡ true) where
@@ -226,19 +227,19 @@ module _ (q : QueryValue) (within : IsWithinLimits q) (ss : List Sign) (is : IsS
       one_end_needs (inl o) end apart m = either {A = Leads ds x2 y1} (λ i. elim i [
         | inl p ↦ either {A = Leads ds x1 y2} (λ j. elim j [
           | inl r ↦ links_cross o end apart p r m
-          | inr n ↦ beside_need q within ss is closed distinct place x2 y2 x1 y1 (strict_step (part_query q ss) links are x2 y2 k2) (strict_step (part_query q ss) links are x1 y1 k1) (turned_side place x1 y1 x2 y2 o) (turned_end ds x1 y1 x2 y2 end) n m
+          | inr n ↦ beside_need q within ps ss is steps distinct place x2 y2 x1 y1 (strict_step (with_signs ps ss q) links are x2 y2 k2) (strict_step (with_signs ps ss q) links are x1 y1 k1) (turned_side place x1 y1 x2 y2 o) (turned_end ds x1 y1 x2 y2 end) n m
         ])
-        | inr n ↦ beside_need q within ss is closed distinct place x1 y1 x2 y2 (strict_step (part_query q ss) links are x1 y1 k1) (strict_step (part_query q ss) links are x2 y2 k2) o end n m
+        | inr n ↦ beside_need q within ps ss is steps distinct place x1 y1 x2 y2 (strict_step (with_signs ps ss q) links are x1 y1 k1) (strict_step (with_signs ps ss q) links are x2 y2 k2) o end n m
       ])
-      one_end_needs (inr (left_right e f)) end apart m = both_sides_need q within ss is closed place x1 y1 x2 y2 (strict_step (part_query q ss) links are x1 y1 k1) (strict_step (part_query q ss) links are x2 y2 k2) e f end m
+      one_end_needs (inr (left_right e f)) end apart m = both_sides_need q within ps ss is steps place x1 y1 x2 y2 (strict_step (with_signs ps ss q) links are x1 y1 k1) (strict_step (with_signs ps ss q) links are x2 y2 k2) e f end m
       one_end_needs (inr (right_left e f)) end apart m =
-          both_sides_need q within ss is closed place x2 y2 x1 y1 (strict_step (part_query q ss) links are x2 y2 k2) (strict_step (part_query q ss) links are x1 y1 k1) f e (turned_end ds x1 y1 x2 y2 end) m
+          both_sides_need q within ps ss is steps place x2 y2 x1 y1 (strict_step (with_signs ps ss q) links are x2 y2 k2) (strict_step (with_signs ps ss q) links are x1 y1 k1) f e (turned_end ds x1 y1 x2 y2 end) m
 
       -- the first is free upward, the second downward
-      pub two_ends_need : HasRoomOutside q → OneSide place x1 y1 x2 y2 ⊎ OtherSides place x1 y1 x2 y2 → AreApart ds place x1 y1 x2 y2 → NoTop ds x1 → NoBottom ds y2 → NeedsStates (written q)
-      two_ends_need room o apart t b m = either {A = NoTop ds x2} (λ i. elim i [
+      pub two_ends_need : OneSide place x1 y1 x2 y2 ⊎ OtherSides place x1 y1 x2 y2 → AreApart ds place x1 y1 x2 y2 → NoTop ds x1 → NoBottom ds y2 → NeedsStates (written q)
+      two_ends_need o apart t b m = either {A = NoTop ds x2} (λ i. elim i [
         | inl s ↦ one_end_needs o (inl (t, s)) apart m
-        | inr n ↦ apart_need q within ss is closed distinct place x1 y1 x2 y2 (strict_step (part_query q ss) links are x1 y1 k1) (side_one o) (strict_step (part_query q ss) links are x2 y2 k2) (side_two o) t b (λ p. ends n p) m
+        | inr n ↦ apart_need q within ps ss is steps distinct place x1 y1 x2 y2 (strict_step (with_signs ps ss q) links are x1 y1 k1) (side_one o) (strict_step (with_signs ps ss q) links are x2 y2 k2) (side_two o) t b (λ p. ends n p) m
       ])
         where
           side_one : OneSide place x1 y1 x2 y2 ⊎ OtherSides place x1 y1 x2 y2 → Side place x1 y1
@@ -256,5 +257,5 @@ module _ (q : QueryValue) (within : IsWithinLimits q) (ss : List Sign) (is : IsS
           -- a path from x1 to y2 would put y2 over an integer that is over x2
           ends : (NoTop ds x2 → ⊥) → Leads ds x1 y2 → ⊥
           ends n p = n (λ h l.
-              over_all q within ss is room x2 x1 (strict_named x1 y1 k1).0 (strict_grouped x2 y2 k2 ∙ sym (leads_grouped q within ss is x1 y2 p)) t h l (λ k.
-              b (k.0 +ℤ pos 1) (λ v s. (let c = k.2 v s in let d = leads_bound (part_query q ss) x1 y2 p v s in omega (arith, ints, c, d)))))
+              over_all q within ps ss is x2 x1 (strict_named x1 y1 k1).0 (strict_grouped x2 y2 k2 ∙ sym (leads_grouped q within ps ss is x1 y2 p)) t h l (λ k.
+              b (k.0 +ℤ pos 1) (λ v s. (let c = k.2 v s in let d = leads_bound (with_signs ps ss q) x1 y2 p v s in omega (arith, ints, c, d)))))

@@ -1,8 +1,7 @@
 -- Where each break of a part tells, the violations of the split form decide whether a query needs many states.
-use Rattle.std.proofs.Common.{◌≡◌, ◌≢◌, ◌⊎◌, inl, inr, ◌-◌, ◌↔◌, List, Option, None, Some, refl, sym, ap, subst}
+use Rattle.std.proofs.Common.{◌≡◌, ◌≢◌, ◌-◌, ◌↔◌, List, Option, None, Some, refl, subst}
 use Rattle.std.proofs.lemmas.List.Elements.{All-contains}
 use Rattle.sem_query.specs.declared.atom.Atom.{Atom}
-use Rattle.sem_query.specs.declared.condition.Condition.TheVariants.{C3}
 use Rattle.sem_query.specs.declared.first_break.Break.{Break}
 use Rattle.sem_query.specs.declared.part.Sign.{Sign}
 use Rattle.sem_query.specs.Query.{QueryValue, IsWithinLimits}
@@ -15,7 +14,6 @@ use Rattle.sem_forms.specs.Split.{part_query}
 use Rattle.sem_forms.specs.SplitBreaks.{IsPartBreak, broken, unbounded, none, BreaksAt, IsSplitViolation}
 use Rattle.sem_lower_bounds.specs.Within.{NeedsStatesWithin}
 use Rattle.sem_lower_bounds.proofs.SoftRefused.{member_at}
-use Rattle.sem_split_bounds.specs.Split.{HasRoomOutside}
 use Rattle.sem_split_bounds.proofs.Bounded.{no_open_dim}
 use Rattle.sem_split_bounds.proofs.Unbroken.{unbroken-parts-need-few-states}
 
@@ -32,18 +30,16 @@ module _ (q : QueryValue) (failure : Failure)
   some_break : (b c : Break) → Some b ≡ Some c → b ≡ c
   some_break b c e = cc
 
-  -- the failure of a part tells, unless that is a dim without an end
-  part_needs : (ss : List Sign) → IsSplitPart q ss → (o : Option Break) → o ≡ Some break → IsPartBreak (part_query q ss) o
-      → (failure.condition ≢ C3) ⊎ (HasRoomOutside q × IsWithinLimits q) → NeedsStatesWithin q
-  part_needs ss is o e (broken links are d i) n =
+  -- the failure of a part tells: no dim lacks an end
+  part_needs : (ss : List Sign) → IsSplitPart q ss → (o : Option Break) → o ≡ Some break → IsPartBreak (part_query q ss) o → IsWithinLimits q → NeedsStatesWithin q
+  part_needs ss is o e (broken links are d i) within =
       tell ss is links are (subst (λ b. WholeBreaks (part_query q ss) links b.condition b.attr) (some_break d break e) i.0)
-  part_needs ss is o e (unbounded f plan i a k) (inl n) = absurd (n (sym (ap (λ b. b.condition) (some_break record { condition = C3; attr = a } break e))))
-  part_needs ss is o e (unbounded f plan i a k) (inr n) = absurd (no_open_dim q n.1 n.0 ss is f plan i a k.0)
-  part_needs ss is o e (none p own i) n = absurd cc
+  part_needs ss is o e (unbounded f plan i a k) within = absurd (no_open_dim q within ss is f plan i a k.0)
+  part_needs ss is o e (none p own i) within = absurd cc
 
-  pub violation_needs : IsSplitViolation q (Some failure) → (failure.condition ≢ C3) ⊎ (HasRoomOutside q × IsWithinLimits q) → NeedsStatesWithin q
-  violation_needs v n =
-      part_needs v.first.1.signs (part_at q (Some failure) v (failure.part - 1) (Some break) v.first.1) (Some break) refl v.first.1.breaks n
+  pub violation_needs : IsSplitViolation q (Some failure) → IsWithinLimits q → NeedsStatesWithin q
+  violation_needs v within =
+      part_needs v.first.1.signs (part_at q (Some failure) v (failure.part - 1) (Some break) v.first.1) (Some break) refl v.first.1.breaks within
 
 -- where each failure tells, they decide
 pub violations_decide : (q : QueryValue) → IsWithinLimits q → ((f : Failure) → IsSplitViolation q (Some f) → NeedsStatesWithin q)

@@ -2,9 +2,12 @@ pub mod Paths
 pub mod Ends
 pub mod Reach
 pub mod Motions
+pub mod Parts
 pub mod PartSolutions
 pub mod OpenLinks
 pub mod Standing
+mod Nearest
+pub mod Spacing
 pub mod Between
 pub mod FreeSteps
 pub mod UnlikeLinks
@@ -15,6 +18,17 @@ pub mod PartsTell
 pub mod OpposedFamilies
 pub mod CrossedLinks
 pub mod PartsNeed
+pub mod NearNeed
+pub mod Covering
+pub mod RowKeys
+pub mod SmallSides
+pub mod Reduced
+pub mod ShortHistories
+pub mod Replacing
+pub mod KeptOpen
+pub mod FarSteps
+pub mod NearRows
+pub mod NearFew
 pub mod Unbroken
 pub mod Bounded
 pub mod Deciding

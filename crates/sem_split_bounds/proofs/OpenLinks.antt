@@ -40,7 +40,7 @@ turned_both P Op.Ne x y p r = by (comes_late x y)
     by false = p
 
 -- the operators of turned comparisons
-abbrev IsTurned : Op → Type 0
+abbrev pub IsTurned : Op → Type 0
 IsTurned o = ((o ≡ Op.Lt) ⊎ (o ≡ Op.Le)) ⊎ ((o ≡ Op.Eq) ⊎ (o ≡ Op.Ne))
 
 turned_op : (o : Op) (x y : Element) → IsTurned (turned_by o x y).op
@@ -144,7 +144,7 @@ module _ (r : QueryValue) (links : List Atom) (are : AreLinks r links) where
         is = u.2;
       }
 
-  pub link_op : (t : Atom) → Has links t → ((t.op ≡ Op.Lt) ⊎ (t.op ≡ Op.Le)) ⊎ ((t.op ≡ Op.Eq) ⊎ (t.op ≡ Op.Ne))
+  pub link_op : (t : Atom) → Has links t → IsTurned t.op
   link_op t h = let u = turns t h in subst (λ t. IsTurned t.op) u.is (turned_op u.from.op u.from.left u.from.right)
 
   link_across : (t : Atom) → Has links t → are_across t.left t.right ≡ true
@@ -276,11 +276,11 @@ pub record OpenLink (r : QueryValue) (links : List Atom) (a : Attr) : Type 0 whe
   pub class : AreOneClass (system r) a x ⊎ AreOneClass (system r) a y
   pub free : Free (system r) x y
 
-module _ (r : QueryValue) (links : List Atom) (are : AreLinks r links) (none : (t : Atom) → Has links t → t.op ≡ Op.Ne → ⊥)
+module _ (r : QueryValue) (links : List Atom) (ops : (t : Atom) → Has links t → IsTurned t.op) (none : (t : Atom) → Has links t → t.op ≡ Op.Ne → ⊥)
     (a : Attr) (other : IsKeptAsItIs r links a → ⊥) where
   -- a link of the class is neither `=` nor `<>`
   strict : (t : Atom) → Has links t → (b : Attr) → (t.left ≡ element.Attr b) ⊎ (t.right ≡ element.Attr b) → AreOneClass (system r) a b → (t.op ≡ Op.Lt) ⊎ (t.op ≡ Op.Le)
-  strict t h b s c = elim (link_op r links are t h) [
+  strict t h b s c = elim (ops t h) [
     | inl o ↦ o
     | inr o ↦ elim o [ inl e ↦ absurd (other (kept.linked t h e b s c)) | inr e ↦ absurd (none t h e) ]
   ]
@@ -344,17 +344,17 @@ module _ (r : QueryValue) (links : List Atom) (are : AreLinks r links) (none : (
       }
 
 -- an open class that is not kept as it is has such a link
-pub open_link : (r : QueryValue) (links : List Atom) → AreLinks r links → ((t : Atom) → Has links t → t.op ≡ Op.Ne → ⊥)
+pub open_link : (r : QueryValue) (links : List Atom) → ((t : Atom) → Has links t → IsTurned t.op) → ((t : Atom) → Has links t → t.op ≡ Op.Ne → ⊥)
     → (a : Attr) → IsOpen (IsKeptRange r links a) → (IsKeptAsItIs r links a → ⊥) → OpenLink r links a
-open_link r links are none a o other = elim (lacks_end o.0 o.2) [
+open_link r links ops none a o other = elim (lacks_end o.0 o.2) [
   | inl e ↦ (
       let f = later_none k.own.lo (widest k.asked).lo (sym (ap (λ r. r.lo) k.is) ∙ e) in
       let m = low_member k.asked k.some.0 k.some.1 in
-      low_link r links are none a other m.0 ((k.all m.0).0 m.1) (sym m.2 ∙ f.1) (subst (IsLowest (system r) a) f.0 k.is_own.low))
+      low_link r links ops none a other m.0 ((k.all m.0).0 m.1) (sym m.2 ∙ f.1) (subst (IsLowest (system r) a) f.0 k.is_own.low))
   | inr e ↦ (
       let f = sooner_none k.own.hi (widest k.asked).hi (sym (ap (λ r. r.hi) k.is) ∙ e) in
       let m = high_member k.asked k.some.0 k.some.1 in
-      high_link r links are none a other m.0 ((k.all m.0).0 m.1) (sym m.2 ∙ f.1) (subst (IsHighest (system r) a) f.0 k.is_own.high))
+      high_link r links ops none a other m.0 ((k.all m.0).0 m.1) (sym m.2 ∙ f.1) (subst (IsHighest (system r) a) f.0 k.is_own.high))
 ]
   where
     k : IsKeptRange r links a o.0

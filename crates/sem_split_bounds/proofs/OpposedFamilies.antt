@@ -1,28 +1,29 @@
 -- With DISTINCT: two differences between streams, of which one fails upward and the other downward, in families of solutions of a part.
-use Rattle.std.proofs.Common.{◌≡◌, ℕ, suc, ◌+◌, ◌*◌, ◌<◌, ◌≤◌, ◌⊎◌, inl, inr, List, length, Bool, true, false, ap, subst, arith, nat_abs, ℤ, pos, neg_ℤ, ◌+ℤ◌, ◌<ℤ◌, ◌≤ℤ◌}
+use Rattle.std.proofs.Common.{◌≡◌, ℕ, suc, ◌+◌, ◌-◌, ◌*◌, ◌<◌, ◌≤◌, ◌⊎◌, inl, inr, List, length, Bool, true, false, ap, subst, arith, nat_abs, ℤ, pos, neg_ℤ, ◌+ℤ◌, ◌<ℤ◌, ◌≤ℤ◌}
 use Rattle.std.proofs.lemmas.Int.{ints}
 use Rattle.sem_query.specs.declared.atom.Attr.{Attr}
+use Rattle.sem_query.specs.declared.part.Pair.{Pair}
 use Rattle.sem_query.specs.declared.part.Sign.{Sign}
 use Rattle.sem_query.specs.Query.{QueryValue, IsWithinLimits}
 use Rattle.sem_query.specs.Assignment.{Assignment}
 use Rattle.sem_laws.proofs.Tests.{false_if}
-use Rattle.plan_split_pairs.specs.SplitParts.{IsSplitPart}
 use Rattle.sem_whole.specs.System.{Difference, system, Solves}
-use Rattle.sem_forms.specs.Split.{part_query}
+use Rattle.sem_whole.specs.Signed.{with_signs}
 use Rattle.sem_lower_bounds.specs.States.{NeedsStates}
 use Rattle.sem_lower_bounds.specs.Within.{written}
 use Rattle.sem_lower_bounds.proofs.Families.{IsFamily, sets-need}
 use Rattle.sem_lower_bounds.proofs.Ranges.{size, IsNear}
 use Rattle.sem_lower_bounds.proofs.Separated.{NeedsAt, needs-all}
 use Rattle.sem_lower_bounds.proofs.TwoLinks.{times_more, gone-small, left_of, left_less, left-small, falls_by, falls_less}
-use Rattle.sem_split_bounds.specs.Split.{HasClosedUnlikes}
 use Rattle.sem_split_bounds.proofs.Paths.{Leads, here, leads_more, Step, step_leads}
 use Rattle.sem_split_bounds.proofs.Ends.{NoTop, NoBottom, Free, up, down}
 use Rattle.sem_split_bounds.proofs.Reach.{Reach, ReachedBy, raised_with, lowered_with}
 use Rattle.sem_split_bounds.proofs.Motions.{moved, moved_solves, moved_near, two_blocks, blocks_first, blocks_second, blocks_ahead, blocks_behind, blocks_apart}
-use Rattle.sem_split_bounds.proofs.PartSolutions.{base_solves, solution_written, step_named}
-use Rattle.sem_split_bounds.proofs.FreeSteps.{step_of_query}
-use Rattle.sem_split_bounds.proofs.MovedFamilies.{span, spans_left, spans_right, written_formed, place_of, step_two, left_fails, right_fails}
+use Rattle.sem_split_bounds.proofs.Parts.{IsPart}
+use Rattle.sem_split_bounds.proofs.PartSolutions.{KeepsApart, holds_apart, base_solves, part_written, step_named}
+use Rattle.sem_split_bounds.proofs.Spacing.{span, stride, step_within, IsNoneOr, steps_or_none, up_spaced, down_spaced, apart_spaced, twice_or_none, twice_up_spaced, twice_down_spaced, moved_apart}
+use Rattle.sem_split_bounds.proofs.FreeSteps.{AreOfQuery}
+use Rattle.sem_split_bounds.proofs.MovedFamilies.{written_formed, place_of, step_two, left_fails, right_fails}
 
 -- ---- numbers
 
@@ -128,17 +129,22 @@ sides_of_both place x1 y1 x2 y2 (at_right e) (at_right f) = inl (rights e f)
 abbrev pub OneEnd : List Difference → Attr → Attr → Attr → Attr → Type 0
 OneEnd ds x1 y1 x2 y2 = (NoTop ds x1 × NoTop ds x2) ⊎ (NoBottom ds y1 × NoBottom ds y2)
 
-module _ (q : QueryValue) (within : IsWithinLimits q) (ss : List Sign) (is : IsSplitPart q ss) (closed : HasClosedUnlikes q) (distinct : q.distinct ≡ true) where
+module _ (q : QueryValue) (within : IsWithinLimits q) (ps : List Pair) (ss : List Sign) (is : IsPart q ps ss) (steps : AreOfQuery q ps ss) (distinct : q.distinct ≡ true) where
   abbrev ds : List Difference
-  ds = system (part_query q ss)
+  ds = system (with_signs ps ss q)
 
-  -- solutions, of which the first n go no farther than so much with each step
+  -- longer than the sides of any comparison are apart
+  abbrev far : ℕ
+  far = stride q is.one
+
+  -- solutions that meet each `<>` between streams, of which the first n go no farther than so much with each step
   record IsCourse (n : ℕ) (w : ℕ → Assignment) (c : ℕ) : Type 0 where
     pub solves : (i : ℕ) → Solves ds (w i)
+    pub apart : (i : ℕ) → KeepsApart q (w i)
     pub near : IsNear is.one c n w
 
   course_family : (place n : ℕ) (w : ℕ → Assignment) (c : ℕ) → IsCourse n w c → place < length q.from → IsFamily (written q) place w
-  course_family place n w c g l = record { at = l; each = λ i. solution_written q within ss is (w i) (g.solves i) }
+  course_family place n w c g l = record { at = l; each = λ i. part_written q within ps ss is (w i) (g.solves i) (g.apart i) }
 
   left_place : (place : ℕ) (x y : Attr) → Step (system q) x y → x.stream ≡ place → place < length q.from
   left_place place x y s e = subst (λ k. k < length q.from) e (place_of q within x (step_named q x y s).0)
@@ -171,30 +177,28 @@ module _ (q : QueryValue) (within : IsWithinLimits q) (ss : List Sign) (is : IsS
 
   module _ (x1 y1 x2 y2 : Attr) (s1 : Step ds x1 y1) (s2 : Step ds x2 y2) (free1 : Free ds x1 y1) (free2 : Free ds x2 y2) where
     t1 : Step (system q) x1 y1
-    t1 = step_of_query q within ss is closed x1 y1 s1 free1
+    t1 = steps x1 y1 s1 free1
 
     t2 : Step (system q) x2 y2
-    t2 = step_of_query q within ss is closed x2 y2 s2 free2
-
-    -- longer than the columns of both are apart
-    abbrev far : ℕ
-    far = suc (span (is.one x1) (is.one y1) + span (is.one x2) (is.one y2))
+    t2 = steps x2 y2 s2 free2
 
     near_first : span (is.one x1) (is.one y1) < far
-    near_first = spans_left (span (is.one x1) (is.one y1)) (span (is.one x2) (is.one y2))
+    near_first = step_within q is.one x1 y1 t1
 
     near_second : span (is.one x2) (is.one y2) < far
-    near_second = spans_right (span (is.one x1) (is.one y1)) (span (is.one x2) (is.one y2))
+    near_second = step_within q is.one x2 y2 t2
 
     -- what the first differences lead to is raised step by step, and what leads to the second is lowered
     module _ (f g : Attr → Bool) (rf : Reach ds x1 f) (rg : ReachedBy ds y2 g) (away : Leads ds x1 y2 → ⊥) (n : ℕ) (h : ℕ → ℕ) where
       abbrev parted : ℕ → Assignment
       parted = course is.one f g (λ i. pos (i * far)) (λ i. neg_ℤ (pos (h i)))
 
-      parted_course : ((i : ℕ) → i < n → h i ≤ n * far) → IsCourse n parted (4 * far)
-      parted_course small = record {
-        solves = λ i. moved_solves ds is.one (two_blocks f g (pos (i * far)) (neg_ℤ (pos (h i)))) (base_solves q within ss is)
+      parted_course : ((i : ℕ) → i < n → h i ≤ n * far) → ((i : ℕ) → IsNoneOr far (h i)) → IsCourse n parted (4 * far)
+      parted_course small none = record {
+        solves = λ i. moved_solves ds is.one (two_blocks f g (pos (i * far)) (neg_ℤ (pos (h i)))) (base_solves q within ps ss is)
             (blocks_apart ds f g (pos (i * far)) (neg_ℤ (pos (h i))) rf.ahead rg.behind (from_zero (i * far)) (to_zero (h i)));
+        apart = λ i. moved_apart q is.one (holds_apart q is.one is.holds) f g (pos (i * far)) (neg_ℤ (pos (h i)))
+            (up_spaced far (i * far) (steps_or_none far i)) (down_spaced far (h i) (none i)) (apart_spaced far (i * far) (h i) (steps_or_none far i) (none i));
         near = course_near is.one f g (λ i. pos (i * far)) (λ i. neg_ℤ (pos (h i))) n far
             (λ i l. size_up (i * far) (n * far + n * far + n * far) (within_three (i * far) (n * far) (gone-small far n i l)))
             (λ i l. size_down (h i) (n * far) (small i l));
@@ -225,11 +229,11 @@ module _ (q : QueryValue) (within : IsWithinLimits q) (ss : List Sign) (is : IsS
     -- on one side the second is lowered as far as the first is raised, on other sides by what is left of n steps
     parted_needs : (place : ℕ) → OneSide place x1 y1 x2 y2 ⊎ OtherSides place x1 y1 x2 y2 → (f g : Attr → Bool) → Reach ds x1 f → ReachedBy ds y2 g → (Leads ds x1 y2 → ⊥) → NeedsStates (written q)
     parted_needs place (inl o) f g rf rg away = needs-all (written q) (size place is.one + 4 * far) (λ n.
-        one_side_at place n (parted f g rf rg away n (λ i. i * far)) (4 * far) (parted_course f g rf rg away n (λ i. i * far) (λ i l. gone-small far n i l)) x1 y1 x2 y2 t1 t2 o
+        one_side_at place n (parted f g rf rg away n (λ i. i * far)) (4 * far) (parted_course f g rf rg away n (λ i. i * far) (λ i l. gone-small far n i l) (λ i. steps_or_none far i)) x1 y1 x2 y2 t1 t2 o
         (parted_rises f g rf rg away n (λ i. i * far))
         (parted_falls f g rf rg away n (λ i. i * far) (λ i j l m. times_more far i j l)))
     parted_needs place (inr o) f g rf rg away = needs-all (written q) (size place is.one + 4 * far) (λ n.
-        other_sides_at place n (parted f g rf rg away n (left_of n far)) (4 * far) (parted_course f g rf rg away n (left_of n far) (λ i l. left-small n far i)) x1 y1 x2 y2 t1 t2 o
+        other_sides_at place n (parted f g rf rg away n (left_of n far)) (4 * far) (parted_course f g rf rg away n (left_of n far) (λ i l. left-small n far i) (λ i. steps_or_none far (n - i))) x1 y1 x2 y2 t1 t2 o
         (parted_rises f g rf rg away n (left_of n far))
         (parted_rises_too f g rf rg away n (left_of n far) (λ i j l m. left_less n far i j l m)))
 
@@ -242,8 +246,11 @@ module _ (q : QueryValue) (within : IsWithinLimits q) (ss : List Sign) (is : IsS
 
       raised_course : IsCourse n raised (4 * far)
       raised_course = record {
-        solves = λ i. moved_solves ds is.one (two_blocks f g (pos (falls_by n far i)) (pos (i * far))) (base_solves q within ss is)
+        solves = λ i. moved_solves ds is.one (two_blocks f g (pos (falls_by n far i)) (pos (i * far))) (base_solves q within ps ss is)
             (blocks_ahead ds f g (pos (falls_by n far i)) (pos (i * far)) rf.ahead rg.ahead (from_zero (i * far)) (falls_over (left_of n far i) (i * far)));
+        apart = λ i. moved_apart q is.one (holds_apart q is.one is.holds) f g (pos (falls_by n far i)) (pos (i * far))
+            (up_spaced far (falls_by n far i) (twice_or_none far (left_of n far i) (i * far) (steps_or_none far (n - i)) (steps_or_none far i)))
+            (up_spaced far (i * far) (steps_or_none far i)) (twice_up_spaced far (left_of n far i) (i * far) (steps_or_none far (n - i)));
         near = course_near is.one f g (λ i. pos (falls_by n far i)) (λ i. pos (i * far)) n far
             (λ i l. size_up (falls_by n far i) (n * far + n * far + n * far) (falls_small n far i l))
             (λ i l. size_up (i * far) (n * far) (gone-small far n i l));
@@ -271,8 +278,11 @@ module _ (q : QueryValue) (within : IsWithinLimits q) (ss : List Sign) (is : IsS
 
       lowered_course : IsCourse n lowered (4 * far)
       lowered_course = record {
-        solves = λ i. moved_solves ds is.one (two_blocks f g (neg_ℤ (pos (falls_by n far i))) (neg_ℤ (pos (i * far)))) (base_solves q within ss is)
+        solves = λ i. moved_solves ds is.one (two_blocks f g (neg_ℤ (pos (falls_by n far i))) (neg_ℤ (pos (i * far)))) (base_solves q within ps ss is)
             (blocks_behind ds f g (neg_ℤ (pos (falls_by n far i))) (neg_ℤ (pos (i * far))) rf.behind rg.behind (to_zero (i * far)) (falls_under (left_of n far i) (i * far)));
+        apart = λ i. moved_apart q is.one (holds_apart q is.one is.holds) f g (neg_ℤ (pos (falls_by n far i))) (neg_ℤ (pos (i * far)))
+            (down_spaced far (falls_by n far i) (twice_or_none far (left_of n far i) (i * far) (steps_or_none far (n - i)) (steps_or_none far i)))
+            (down_spaced far (i * far) (steps_or_none far i)) (twice_down_spaced far (left_of n far i) (i * far) (steps_or_none far (n - i)));
         near = course_near is.one f g (λ i. neg_ℤ (pos (falls_by n far i))) (λ i. neg_ℤ (pos (i * far))) n far
             (λ i l. size_down (falls_by n far i) (n * far + n * far + n * far) (falls_small n far i l))
             (λ i l. size_down (i * far) (n * far) (gone-small far n i l));
@@ -305,15 +315,15 @@ module _ (q : QueryValue) (within : IsWithinLimits q) (ss : List Sign) (is : IsS
   pub apart_need : (place : ℕ) (x1 y1 x2 y2 : Attr) → Step ds x1 y1 → Side place x1 y1 → Step ds x2 y2 → Side place x2 y2
       → NoTop ds x1 → NoBottom ds y2 → (Leads ds x1 y2 → ⊥) → NeedsStates (written q)
   apart_need place x1 y1 x2 y2 s1 p1 s2 p2 top bottom away m =
-      raised_with (part_query q ss) x1 top (λ f. lowered_with (part_query q ss) y2 bottom (λ g.
+      raised_with (with_signs ps ss q) x1 top (λ f. lowered_with (with_signs ps ss q) y2 bottom (λ g.
       parted_needs x1 y1 x2 y2 s1 s2 (up top) (down bottom) place (sides_of_both place x1 y1 x2 y2 p1 p2) f.0 g.0 f.1 g.1 away m))
 
   -- of two differences on one side of a stream, free at one end, the second can be moved by more than the first
   pub beside_need : (place : ℕ) (x1 y1 x2 y2 : Attr) → Step ds x1 y1 → Step ds x2 y2 → OneSide place x1 y1 x2 y2
       → OneEnd ds x1 y1 x2 y2 → (Leads ds x2 y1 → ⊥) → NeedsStates (written q)
   beside_need place x1 y1 x2 y2 s1 s2 o (inl t) away m =
-      raised_with (part_query q ss) x2 t.1 (λ f. raised_with (part_query q ss) x1 t.0 (λ g.
+      raised_with (with_signs ps ss q) x2 t.1 (λ f. raised_with (with_signs ps ss q) x1 t.0 (λ g.
       raised_needs x1 y1 x2 y2 s1 s2 (up t.0) (up t.1) place o f.0 g.0 f.1 g.1 away m))
   beside_need place x1 y1 x2 y2 s1 s2 o (inr t) away m =
-      lowered_with (part_query q ss) y1 t.0 (λ f. lowered_with (part_query q ss) y2 t.1 (λ g.
+      lowered_with (with_signs ps ss q) y1 t.0 (λ f. lowered_with (with_signs ps ss q) y2 t.1 (λ g.
       lowered_needs x1 y1 x2 y2 s1 s2 (down t.0) (down t.1) place o f.0 g.0 f.1 g.1 away m))

@@ -1,25 +1,27 @@
--- A query of which a split part breaks the first or the second condition, or without DISTINCT any, needs many states.
-use Rattle.std.proofs.Common.{◌≡◌, ◌≢◌, ℕ, pos, ◌⊎◌, inl, inr, List, false, refl, sym, subst}
+-- A part that breaks the first or the second condition, or without DISTINCT any, tells that its query needs many states.
+use Rattle.std.proofs.Common.{◌≡◌, ◌≢◌, ℕ, pos, ◌⊎◌, inl, inr, List, refl, sym, subst}
 use Rattle.std.specs.Prelude.{IsFalse}
 use Rattle.sem_query.specs.declared.atom.Atom.{Atom}
 use Rattle.sem_query.specs.declared.atom.Attr.{Attr}
 use Rattle.sem_query.specs.declared.atom.Element.TheVariants as element
 use Rattle.sem_query.specs.declared.condition.Condition.{Condition}
 use Rattle.sem_query.specs.declared.condition.Condition.TheVariants.{C1, C2, C3}
+use Rattle.sem_query.specs.declared.atom.Op.{Op}
+use Rattle.sem_query.specs.declared.part.Pair.{Pair}
 use Rattle.sem_query.specs.declared.part.Sign.{Sign}
 use Rattle.sem_query.specs.Query.{QueryValue, IsWithinLimits, is_filter}
+use Rattle.sem_query.proofs.Has.{Has}
+use Rattle.plan_split_pairs.specs.Pairs.{split_pairs}
 use Rattle.plan_split_pairs.specs.SplitParts.{IsSplitPart}
-use Rattle.sem_laws.proofs.Queries.{IsQuery}
-use Rattle.sem_whole.specs.System.{system, Bound}
+use Rattle.sem_whole.specs.System.{Difference, system, Bound}
 use Rattle.sem_whole.specs.Links.{AreLinks}
+use Rattle.sem_whole.specs.Signed.{with_signs}
 use Rattle.sem_whole.specs.Kept as kept
 use Rattle.sem_whole.specs.Kept.{IsKeptAsItIs, IsKeptRange}
 use Rattle.sem_whole.specs.Whole.{IsFinite, IsOpenSide, WholeBreaks}
 use Rattle.sem_whole.proofs.Formed.{query_formed}
 use Rattle.sem_whole.proofs.Stands.{AreColumnsOf, link_columns}
 use Rattle.sem_whole.proofs.Unbroken.{kept_own_range}
-use Rattle.sem_forms.specs.Split.{part_query}
-use Rattle.sem_forms.proofs.PartQueries.{part_queries_are_well_formed}
 use Rattle.sem_lower_bounds.specs.States.{NeedsStates}
 use Rattle.sem_lower_bounds.specs.Within.{written}
 use Rattle.sem_lower_bounds.proofs.Formed.{formed}
@@ -27,120 +29,134 @@ use Rattle.sem_lower_bounds.proofs.Skipping.{written-decides-at}
 use Rattle.sem_split_bounds.specs.Split.{HasToldUnlikes}
 use Rattle.sem_split_bounds.specs.Refused.{BrokenPartsTell, CountedPartsTell}
 use Rattle.sem_split_bounds.proofs.Paths.{Leads, Step, step_leads, leads_bound, leaving, entering}
-use Rattle.sem_split_bounds.proofs.Ends.{NoTop, NoBottom, up, down, top_over, bottom_under, open_ends}
+use Rattle.sem_split_bounds.proofs.Ends.{NoTop, NoBottom, Free, up, down, top_over, bottom_under, open_ends}
 use Rattle.sem_split_bounds.proofs.Motions.{tight}
+use Rattle.sem_split_bounds.proofs.Parts.{IsPart, split_part, part_well_formed}
 use Rattle.sem_split_bounds.proofs.PartSolutions.{base_solves}
-use Rattle.sem_split_bounds.proofs.OpenLinks.{strict_not_unlike, link_steps, equal_steps, OpenLink, open_link}
+use Rattle.sem_split_bounds.proofs.FreeSteps.{step_of_query}
+use Rattle.sem_split_bounds.proofs.OpenLinks.{strict_not_unlike, link_op, link_steps, equal_steps, OpenLink, open_link}
 use Rattle.sem_split_bounds.proofs.UnlikeLinks.{no_unlike_link}
 use Rattle.sem_split_bounds.proofs.MovedFamilies.{open_column_needs, both_sides_need}
 use Rattle.sem_split_bounds.proofs.CountedUnlike.{counted_step_needs}
 
-module _ (q : QueryValue) (within : IsWithinLimits q) (ss : List Sign) (is : IsSplitPart q ss) (links : List Atom) (are : AreLinks (part_query q ss) links) (joins : IsFalse (is_filter q)) where
-  pub selected_breaks : (a : Attr) → WholeBreaks (part_query q ss) links C1 a → NeedsStates (written q)
-  selected_breaks a b = open_column_needs q within ss is joins a b.0 (open_ends (system (part_query q ss)) a b.1.0 b.1.1 b.1.2)
+-- two differences of a part, on both sides of one stream and without an end at the same side, are enough
+abbrev pub TwoSidesNeed : QueryValue → List Pair → List Sign → Type 0
+TwoSidesNeed q ps ss =
+    (place : ℕ) (x1 y1 x2 y2 : Attr) → Step (system (with_signs ps ss q)) x1 y1 → Step (system (with_signs ps ss q)) x2 y2 → x1.stream ≡ place → y2.stream ≡ place
+    → (NoTop (system (with_signs ps ss q)) x1 × NoTop (system (with_signs ps ss q)) x2) ⊎ (NoBottom (system (with_signs ps ss q)) y1 × NoBottom (system (with_signs ps ss q)) y2)
+    → NeedsStates (written q)
 
-  module _ (told : HasToldUnlikes q) where
-    -- two differences of one stream, without an end at the same side
-    two_sides_need : (place : ℕ) (x1 y1 x2 y2 : Attr) → Step (system (part_query q ss)) x1 y1 → Step (system (part_query q ss)) x2 y2 → x1.stream ≡ place → y2.stream ≡ place
-        → (NoTop (system (part_query q ss)) x1 × NoTop (system (part_query q ss)) x2) ⊎ (NoBottom (system (part_query q ss)) y1 × NoBottom (system (part_query q ss)) y2)
-        → NeedsStates (written q)
-    two_sides_need place x1 y1 x2 y2 s1 s2 e1 e2 o m = elim told [
-      | inl closed ↦ both_sides_need q within ss is closed place x1 y1 x2 y2 s1 s2 e1 e2 o m
-      | inr d ↦ counted_step_needs q within ss is joins d x1 y1 s1 (elim o [ inl t ↦ up t.0 | inr t ↦ down t.0 ]) m
-    ]
+-- or one that an end leaves free
+abbrev pub OneStepNeeds : QueryValue → List Pair → List Sign → Type 0
+OneStepNeeds q ps ss = (x y : Attr) → Step (system (with_signs ps ss q)) x y → Free (system (with_signs ps ss q)) x y → NeedsStates (written q)
 
+module _ (q : QueryValue) (within : IsWithinLimits q) (ps : List Pair) (ss : List Sign) (is : IsPart q ps ss) (joins : IsFalse (is_filter q)) where
+  abbrev r : QueryValue
+  r = with_signs ps ss q
+
+  abbrev ds : List Difference
+  ds = system r
+
+  pub selected_breaks : (links : List Atom) (a : Attr) → WholeBreaks r links C1 a → NeedsStates (written q)
+  selected_breaks links a b = open_column_needs q within ps ss is joins a b.0 (open_ends ds a b.1.0 b.1.1 b.1.2)
+
+  -- all links of the part, and some of them, none of which is `<>`
+  module _ (all : List Atom) (are : AreLinks r all) (links : List Atom) (from : (t : Atom) → Has links t → Has all t)
+      (none : (t : Atom) → Has links t → t.op ≡ Op.Ne → ⊥) (two_sides_need : TwoSidesNeed q ps ss) where
     -- x and y lead to each other, and lack an end
-    equals_need : (x y : Attr) → Step (system (part_query q ss)) x y → Step (system (part_query q ss)) y x
-        → NoTop (system (part_query q ss)) x ⊎ NoBottom (system (part_query q ss)) x → NeedsStates (written q)
+    equals_need : (x y : Attr) → Step ds x y → Step ds y x → NoTop ds x ⊎ NoBottom ds x → NeedsStates (written q)
     equals_need x y s t (inl n) =
-        two_sides_need x.stream x y y x s t refl refl
-        (inl (n, top_over (system (part_query q ss)) x y (pos 0) (leads_bound (part_query q ss) x y (step_leads (system (part_query q ss)) x y s)) n))
+        two_sides_need x.stream x y y x s t refl refl (inl (n, top_over ds x y (pos 0) (leads_bound r x y (step_leads ds x y s)) n))
     equals_need x y s t (inr n) =
-        two_sides_need x.stream x y y x s t refl refl
-        (inr (bottom_under (system (part_query q ss)) y x (pos 0) (leads_bound (part_query q ss) y x (step_leads (system (part_query q ss)) y x t)) n, n))
+        two_sides_need x.stream x y y x s t refl refl (inr (bottom_under ds y x (pos 0) (leads_bound r y x (step_leads ds y x t)) n, n))
 
     -- differences lead from a to a column of another stream and back
-    circle_needs : (a b : Attr) → b.stream ≢ a.stream → Leads (system (part_query q ss)) a b → Leads (system (part_query q ss)) b a
-        → NoTop (system (part_query q ss)) a ⊎ NoBottom (system (part_query q ss)) a → NeedsStates (written q)
-    circle_needs a b n p r o = elim (leaving (system (part_query q ss)) a b p) [
+    circle_needs : (a b : Attr) → b.stream ≢ a.stream → Leads ds a b → Leads ds b a → NoTop ds a ⊎ NoBottom ds a → NeedsStates (written q)
+    circle_needs a b n p k o = elim (leaving ds a b p) [
       | inl e ↦ absurd (n (sym e))
-      | inr l ↦ elim (entering (system (part_query q ss)) b a r) [
+      | inr l ↦ elim (entering ds b a k) [
         | inl e ↦ absurd (n e)
         | inr m ↦ two_sides_need a.stream l.0 l.1 m.0 m.1 l.4 m.3 l.3 m.4 (elim o [
           | inl t ↦ inl (
-            top_over (system (part_query q ss)) a l.0 (pos 0) (leads_bound (part_query q ss) a l.0 l.2) t,
-            top_over (system (part_query q ss)) b m.0 (pos 0) (leads_bound (part_query q ss) b m.0 m.2)
-                (top_over (system (part_query q ss)) a b (pos 0) (leads_bound (part_query q ss) a b p) t),
+            top_over ds a l.0 (pos 0) (leads_bound r a l.0 l.2) t,
+            top_over ds b m.0 (pos 0) (leads_bound r b m.0 m.2) (top_over ds a b (pos 0) (leads_bound r a b p) t),
           )
           | inr t ↦ inr (
-            bottom_under (system (part_query q ss)) l.1 b (pos 0) (leads_bound (part_query q ss) l.1 b l.5)
-                (bottom_under (system (part_query q ss)) b a (pos 0) (leads_bound (part_query q ss) b a r) t),
-            bottom_under (system (part_query q ss)) m.1 a (pos 0) (leads_bound (part_query q ss) m.1 a m.5) t,
+            bottom_under ds l.1 b (pos 0) (leads_bound r l.1 b l.5) (bottom_under ds b a (pos 0) (leads_bound r b a k) t),
+            bottom_under ds m.1 a (pos 0) (leads_bound r m.1 a m.5) t,
           )
         ])
       ]
     ]
 
     -- equal to a column of another stream, a column without an end
-    equal_needs : (a b : Attr) → b.stream ≢ a.stream → Bound (system (part_query q ss)) (element.Attr a) (element.Attr b) (pos 0) → Bound (system (part_query q ss)) (element.Attr b) (element.Attr a) (pos 0)
-        → NoTop (system (part_query q ss)) a ⊎ NoBottom (system (part_query q ss)) a → NeedsStates (written q)
+    equal_needs : (a b : Attr) → b.stream ≢ a.stream → Bound ds (element.Attr a) (element.Attr b) (pos 0) → Bound ds (element.Attr b) (element.Attr a) (pos 0)
+        → NoTop ds a ⊎ NoBottom ds a → NeedsStates (written q)
     equal_needs a b n below above (inl t) m =
-        tight (part_query q ss) is.one (base_solves q within ss is) a b (pos 0) (up t) below (λ p.
-        tight (part_query q ss) is.one (base_solves q within ss is) b a (pos 0) (up (top_over (system (part_query q ss)) a b (pos 0) below t)) above (λ r.
-        circle_needs a b n p r (inl t) m))
+        tight r is.one (base_solves q within ps ss is) a b (pos 0) (up t) below (λ p.
+        tight r is.one (base_solves q within ps ss is) b a (pos 0) (up (top_over ds a b (pos 0) below t)) above (λ k.
+        circle_needs a b n p k (inl t) m))
     equal_needs a b n below above (inr t) m =
-        tight (part_query q ss) is.one (base_solves q within ss is) a b (pos 0) (down (bottom_under (system (part_query q ss)) b a (pos 0) above t)) below (λ p.
-        tight (part_query q ss) is.one (base_solves q within ss is) b a (pos 0) (down t) above (λ r.
-        circle_needs a b n p r (inr t) m))
+        tight r is.one (base_solves q within ps ss is) a b (pos 0) (down (bottom_under ds b a (pos 0) above t)) below (λ p.
+        tight r is.one (base_solves q within ps ss is) b a (pos 0) (down t) above (λ k.
+        circle_needs a b n p k (inr t) m))
 
     -- a class that is kept as it is and lacks an end
-    unended_needs : (a : Attr) → NoTop (system (part_query q ss)) a ⊎ NoBottom (system (part_query q ss)) a → IsKeptAsItIs (part_query q ss) links a → NeedsStates (written q)
-    unended_needs a o (kept.selected b c h) = open_column_needs q within ss is joins b h (elim o [
-      | inl t ↦ inl (top_over (system (part_query q ss)) a b (pos 0) c.below t)
-      | inr t ↦ inr (bottom_under (system (part_query q ss)) b a (pos 0) c.above t)
+    unended_needs : (a : Attr) → NoTop ds a ⊎ NoBottom ds a → IsKeptAsItIs r links a → NeedsStates (written q)
+    unended_needs a o (kept.selected b c h) = open_column_needs q within ps ss is joins b h (elim o [
+      | inl t ↦ inl (top_over ds a b (pos 0) c.below t)
+      | inr t ↦ inr (bottom_under ds b a (pos 0) c.above t)
     ])
-    unended_needs a o (kept.linked t h e b s c) = at (link_columns (part_query q ss) well links are t h)
+    unended_needs a o (kept.linked t h e b s c) = at (link_columns r (query_formed r (part_well_formed q within ps ss is)) all are t (from t h))
       where
-        well : IsQuery (part_query q ss)
-        well = query_formed (part_query q ss) (part_queries_are_well_formed q within ss is)
-
-        over : NoTop (system (part_query q ss)) b ⊎ NoBottom (system (part_query q ss)) b
+        over : NoTop ds b ⊎ NoBottom ds b
         over = elim o [
-          | inl t ↦ inl (top_over (system (part_query q ss)) a b (pos 0) c.below t)
-          | inr t ↦ inr (bottom_under (system (part_query q ss)) b a (pos 0) c.above t)
+          | inl t ↦ inl (top_over ds a b (pos 0) c.below t)
+          | inr t ↦ inr (bottom_under ds b a (pos 0) c.above t)
         ]
 
-        at : AreColumnsOf (part_query q ss) t → NeedsStates (written q)
+        at : AreColumnsOf r t → NeedsStates (written q)
         at k = elim s [
-          | inl i ↦ (let m = equal_steps (part_query q ss) links are t h b k.right.attr i k.right.is e in equals_need b k.right.attr m.0 m.1 over)
-          | inr i ↦ (let m = equal_steps (part_query q ss) links are t h k.left.attr b k.left.is i e in equals_need b k.left.attr m.1 m.0 over)
+          | inl i ↦ (let m = equal_steps r all are t (from t h) b k.right.attr i k.right.is e in equals_need b k.right.attr m.0 m.1 over)
+          | inr i ↦ (let m = equal_steps r all are t (from t h) k.left.attr b k.left.is i e in equals_need b k.left.attr m.1 m.0 over)
         ]
     unended_needs a o (kept.equal b h n below above) = equal_needs a b n below above o
 
-    pub kept_breaks : (a : Attr) → IsOpenSide (part_query q ss) links a → IsKeptAsItIs (part_query q ss) links a → NeedsStates (written q)
+    kept_breaks : (a : Attr) → IsOpenSide r links a → IsKeptAsItIs r links a → NeedsStates (written q)
     kept_breaks a o i =
-        let k : IsKeptRange (part_query q ss) links a o.unbounded.0 = o.unbounded.1 in
-        let e : o.unbounded.0 ≡ k.own = kept_own_range (part_query q ss) links a o.unbounded.0 k i in
-        unended_needs a (open_ends (system (part_query q ss)) a k.own k.is_own (λ f. o.unbounded.2 (subst IsFinite (sym e) f))) i
+        let k : IsKeptRange r links a o.unbounded.0 = o.unbounded.1 in
+        let e : o.unbounded.0 ≡ k.own = kept_own_range r links a o.unbounded.0 k i in
+        unended_needs a (open_ends ds a k.own k.is_own (λ f. o.unbounded.2 (subst IsFinite (sym e) f))) i
 
-    pub counted_breaks : q.distinct ≡ false → (a : Attr) → IsOpenSide (part_query q ss) links a → (IsKeptAsItIs (part_query q ss) links a → ⊥) → NeedsStates (written q)
-    counted_breaks d a o n =
-        let l : OpenLink (part_query q ss) links a = open_link (part_query q ss) links are (no_unlike_link q within ss is links are) a o.unbounded n in
-        counted_step_needs q within ss is joins d l.x l.y
-        (link_steps (part_query q ss) links are l.link l.among l.x l.y l.left l.right (strict_not_unlike l.link.op l.strict_or)) l.free
+    counted_breaks : OneStepNeeds q ps ss → (a : Attr) → IsOpenSide r links a → (IsKeptAsItIs r links a → ⊥) → NeedsStates (written q)
+    counted_breaks one a o n =
+        let l : OpenLink r links a = open_link r links (λ t h. link_op r all are t (from t h)) none a o.unbounded n in
+        one l.x l.y (link_steps r all are l.link (from l.link l.among) l.x l.y l.left l.right (strict_not_unlike l.link.op l.strict_or)) l.free
 
-    broken_needs : (c : Condition) (a : Attr) → WholeBreaks (part_query q ss) links c a → (c ≢ C3) ⊎ IsFalse q.distinct → NeedsStates (written q)
-    broken_needs C1 a b o = selected_breaks a b
-    broken_needs C2 a b o = elim b.1 [
+    -- by the first or the second condition, or where one free difference is enough by any
+    pub breaks_need : (c : Condition) (a : Attr) → WholeBreaks r links c a → (c ≢ C3) ⊎ OneStepNeeds q ps ss → NeedsStates (written q)
+    breaks_need C1 a b o = selected_breaks links a b
+    breaks_need C2 a b o = elim b.1 [
       | inl i ↦ kept_breaks a b.0 i
-      | inr u ↦ absurd (no_unlike_link q within ss is links are u.link u.among u.unlike)
+      | inr u ↦ absurd (none u.link u.among u.unlike)
     ]
-    broken_needs C3 a b (inl n) = absurd (n refl)
-    broken_needs C3 a b (inr d) = counted_breaks d a b.0 b.1
+    breaks_need C3 a b (inl n) = absurd (n refl)
+    breaks_need C3 a b (inr one) = counted_breaks one a b.0 b.1
+
+-- ---- split parts
+
+module _ (q : QueryValue) (within : IsWithinLimits q) (ss : List Sign) (is : IsSplitPart q ss) (joins : IsFalse (is_filter q)) (told : HasToldUnlikes q) where
+  split_sides_need : TwoSidesNeed q (split_pairs q) ss
+  split_sides_need place x1 y1 x2 y2 s1 s2 e1 e2 o m = elim told [
+    | inl closed ↦ both_sides_need q within (split_pairs q) ss (split_part q within ss is) (step_of_query q within (split_pairs q) ss (split_part q within ss is) closed)
+        place x1 y1 x2 y2 s1 s2 e1 e2 o m
+    | inr d ↦ counted_step_needs q within ss is joins d x1 y1 s1 (elim o [ inl t ↦ up t.0 | inr t ↦ down t.0 ]) m
+  ]
 
 pub broken-parts-tell : BrokenPartsTell
 broken-parts-tell q within joins told ss is links are c a b o =
-    (written-decides-at q (formed q within)).1 (broken_needs q within ss is links are joins told c a b o)
+    (written-decides-at q (formed q within)).1 (breaks_need q within (split_pairs q) ss (split_part q within ss is) joins links are links (λ t h. h) (no_unlike_link q within ss is links are)
+    (split_sides_need q within ss is joins told) c a b (elim o [ inl n ↦ inl n | inr d ↦ inr (counted_step_needs q within ss is joins d) ]))
 
 pub counted-parts-tell : CountedPartsTell
 counted-parts-tell q within joins d ss is links are c a b = broken-parts-tell q within joins (inr d) ss is links are c a b (inr d)

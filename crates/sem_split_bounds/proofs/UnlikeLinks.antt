@@ -16,7 +16,6 @@ use Rattle.sem_query.proofs.Has.{Has, first, later, Has-nil, Has-append_left, Ha
 use Rattle.sem_query.proofs.Holding.{Holds-each}
 use Rattle.plan_split_pairs.specs.Pairs.{split_pairs}
 use Rattle.plan_split_pairs.specs.SplitParts.{IsSplitPart}
-use Rattle.plan_split_pairs.proofs.Naming.{unlikes_are_pairs}
 use Rattle.plan_split_parts.proofs.Unlike.{unlike_sign}
 use Rattle.sem_whole.specs.System.{Difference, bounds_of, atom_bounds, system, Bound, IsOf}
 use Rattle.sem_whole.specs.Links as between
@@ -26,6 +25,7 @@ use Rattle.sem_whole.proofs.CutLaw.{Stuck, link_stuck}
 use Rattle.sem_whole.proofs.Signed.{said_no_unlike}
 use Rattle.sem_whole.proofs.Suffice.{thins_among, once_has}
 use Rattle.sem_forms.specs.Split.{part_query}
+use Rattle.sem_split_bounds.proofs.PartSolutions.{unlike_split}
 use Rattle.sem_split_bounds.proofs.OpenLinks.{turned_both, turned_unlike}
 use Rattle.sem_split_bounds.proofs.Standing.{between_cases, between_other, regroup, regroup_back, IsColumnLink, no_difference, link_beside, sides_columns, across_if, turned_into, turned_of, column_across}
 use Rattle.sem_split_bounds.proofs.Between.{pair_sides}
@@ -168,7 +168,7 @@ module _ (q : QueryValue) (within : IsWithinLimits q) (ss : List Sign) (is : IsS
           left_is c f = grind (arith, f)
 
           among : Has (split_pairs q) p
-          among = let k = unlikes_are_pairs q within in subst (λ ps. Has ps p) (sym k.joined) (Has-append_left k.others (k.each t h e p i))
+          among = unlike_split q within t h e p i
 
           signed : sign_at is.one p ≢ Sign.Eq
           signed = unlike_sign is.one t e (Holds-each q is.one is.holds t h) p i

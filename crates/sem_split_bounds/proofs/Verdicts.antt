@@ -16,7 +16,7 @@ use Rattle.sem_forms.specs.Parts.{IsFormViolation, IsPartsVerdict}
 use Rattle.sem_forms.specs.Parts as by_parts
 use Rattle.sem_forms.proofs.WholeServes.{whole_parts_serve}
 use Rattle.sem_lower_bounds.specs.Within.{NeedsStatesWithin}
-use Rattle.sem_split_bounds.specs.Split.{HasToldUnlikes, HasRoomOutside}
+use Rattle.sem_split_bounds.specs.Split.{HasToldUnlikes}
 use Rattle.sem_split_bounds.specs.Verdicts.{CompactVerdictsAreExact}
 use Rattle.sem_split_bounds.proofs.Exact.{refused-forms-need-states}
 use Rattle.sem_split_bounds.proofs.Unbroken.{serving_refutes, unbroken-parts-need-few-states}
@@ -52,11 +52,11 @@ module _ (q : QueryValue) (within : IsWithinLimits q) (compact : q.compact ≡ t
         absurd (serving_refutes q (part ∷ []) within (anywhere joins (whole_parts_serve q (well_formed q within) part fits.plan)) follow needs)
     needs_violates (forms.parts o is) needs = needs_parts is needs
 
-  module _ (told : HasToldUnlikes q) (room : HasRoomOutside q) (shared : Bool) (free : ℕ) (verdict : Verdict) (f : Failure) (is : verdict ≡ verdicts.violation f) where
+  module _ (told : HasToldUnlikes q) (shared : Bool) (free : ℕ) (verdict : Verdict) (f : Failure) (is : verdict ≡ verdicts.violation f) where
     violates_parts : IsPartsVerdict shared q free verdict → NeedsStatesWithin q
     violates_parts (by_parts.of_filter i e) = let k : verdicts.violation f ≡ verdicts.filter = sym is ∙ e in absurd cc
     violates_parts (by_parts.of_many_parts joins m e) = let k : verdicts.violation f ≡ verdicts.limit which.Parts = sym is ∙ e in absurd cc
-    violates_parts (by_parts.of_violation joins m g v e) = refused-forms-need-states q within compact told room g v
+    violates_parts (by_parts.of_violation joins m g v e) = refused-forms-need-states q within compact told g v
     violates_parts (by_parts.of_plan joins m v parts p e) = absurd (no_violation (by_parts.form_numbers shared q parts) free f (sym is ∙ e))
 
     violates_needs : IsFormVerdict shared q free verdict → NeedsStatesWithin q
@@ -64,7 +64,7 @@ module _ (q : QueryValue) (within : IsWithinLimits q) (compact : q.compact ≡ t
     violates_needs (forms.parts o p) = violates_parts p
 
 pub compact-verdicts-are-exact : CompactVerdictsAreExact
-compact-verdicts-are-exact q within compact told room shared free verdict is few_parts = (
+compact-verdicts-are-exact q within compact told shared free verdict is few_parts = (
   needs_violates q within compact shared free verdict few_parts is,
-  λ o. violates_needs q within compact told room shared free verdict o.0 o.1 is,
+  λ o. violates_needs q within compact told shared free verdict o.0 o.1 is,
 )

@@ -1,5 +1,5 @@
 -- Refused means many states, of the split form of any query: with domains and soft comparisons or without, with DISTINCT or without.
-use Rattle.std.specs.Prelude.{◌≡◌, ◌≢◌, ◌↔◌, ◌⊎◌, All, Contains, IsTrue, IsFalse, List}
+use Rattle.std.specs.Prelude.{◌≡◌, ◌≢◌, ◌↔◌, ◌⊎◌, IsTrue, IsFalse, List}
 use Rattle.std.specs.declared.option.Option.{Option}
 use Rattle.std.specs.declared.option.Option.TheVariants.{None, Some}
 use Rattle.sem_query.specs.declared.atom.Atom.{Atom}
@@ -9,10 +9,9 @@ use Rattle.sem_query.specs.declared.atom.Op.{Op}
 use Rattle.sem_query.specs.declared.condition.Condition.{Condition}
 use Rattle.sem_query.specs.declared.part.Sign.{Sign}
 use Rattle.sem_query.specs.Members.{Has}
-use Rattle.sem_query.specs.Query.{QueryValue, attrs_of, is_filter, IsShort, IsWithinLimits}
+use Rattle.sem_query.specs.Query.{QueryValue, is_filter, IsWithinLimits}
 use Rattle.sem_query.specs.Violation.{Failure}
 use Rattle.plan_split_pairs.specs.Ends.{has_both_ends}
-use Rattle.plan_split_pairs.specs.Outer.{given_integers}
 use Rattle.plan_split_pairs.specs.SplitParts.{IsSplitPart}
 use Rattle.sem_whole.specs.Links.{AreLinks}
 use Rattle.sem_whole.specs.Whole.{WholeBreaks}
@@ -31,25 +30,21 @@ HasClosedUnlikes q =
 abbrev pub HasToldUnlikes : QueryValue → Type 0
 HasToldUnlikes q = HasClosedUnlikes q ⊎ IsFalse q.distinct
 
--- the integers just outside of what is written have at most 15 digits, too
-abbrev pub HasRoomOutside : QueryValue → Type 0
-HasRoomOutside q = (a : Attr) → Contains (attrs_of q.atoms) a → All IsShort (given_integers q a)
-
 -- a query of which some split part breaks a condition needs many states on rows within its domains
 abbrev pub BrokenPartsNeedStates : Type 0
 BrokenPartsNeedStates =
-    (q : QueryValue) → IsWithinLimits q → IsFalse (is_filter q) → HasToldUnlikes q → HasRoomOutside q
+    (q : QueryValue) → IsWithinLimits q → IsFalse (is_filter q) → HasToldUnlikes q
     → (ss : List Sign) → IsSplitPart q ss → (links : List Atom) → AreLinks (part_query q ss) links
     → (c : Condition) (a : Attr) → WholeBreaks (part_query q ss) links c a → NeedsStatesWithin q
 
 -- a compact query that is refused by a condition needs many states on rows within its domains
 abbrev pub RefusedFormsNeedStates : Type 0
 RefusedFormsNeedStates =
-    (q : QueryValue) → IsWithinLimits q → IsTrue q.compact → HasToldUnlikes q → HasRoomOutside q
+    (q : QueryValue) → IsWithinLimits q → IsTrue q.compact → HasToldUnlikes q
     → (f : Failure) → IsFormViolation q (Some f) → NeedsStatesWithin q
 
 -- the conditions of the split form are exact for each query that is no filter, whether or not it is compact
 abbrev pub SplitConditionsAreExact : Type 0
 SplitConditionsAreExact =
-    (q : QueryValue) → IsWithinLimits q → IsFalse (is_filter q) → HasToldUnlikes q → HasRoomOutside q
+    (q : QueryValue) → IsWithinLimits q → IsFalse (is_filter q) → HasToldUnlikes q
     → (violation : Option Failure) → IsSplitViolation q violation → NeedsStatesWithin q ↔ (violation ≢ None)

@@ -1,6 +1,8 @@
 //! What the parts of the split form of a query tell of its states.
 ghost use Rattle.sem_split_bounds.specs.Accepted.{UnbrokenPartsHaveFewStates, UnbrokenPartsNeedFewStates};
 ghost use Rattle.sem_split_bounds.specs.Cells.{CellsDoNotTell};
+ghost use Rattle.sem_split_bounds.specs.Near.{NearPartsNeedStates};
+ghost use Rattle.sem_split_bounds.specs.NearExact.{UnbrokenNearPartsHaveFewStates, NearConditionsAreExact};
 ghost use Rattle.sem_split_bounds.specs.Refused.{FirstConditionTells, BrokenPartsTell, CountedPartsTell};
 ghost use Rattle.sem_split_bounds.specs.Split.{BrokenPartsNeedStates, RefusedFormsNeedStates, SplitConditionsAreExact};
 ghost use Rattle.sem_split_bounds.specs.Verdicts.{CompactVerdictsAreExact};
@@ -22,15 +24,32 @@ pub fn counted_parts_tell()
     ensures { CountedPartsTell }
 {}
 
-/// Each part that breaks a condition tells it, where the integers just outside of those written have at most 15 digits and, with DISTINCT, each `<>`
-/// between streams has a side with both ends by the text.
+/// Each part that breaks a condition tells it, where with DISTINCT each `<>` between streams has a side with both ends by the text.
 pub fn broken_parts_need_states()
     ensures { BrokenPartsNeedStates }
 {}
 
-/// Under these premises a compact query that is refused by a condition needs many states on rows within its domains.
+/// Under this premise a compact query that is refused by a condition needs many states on rows within its domains.
 pub fn refused_forms_need_states()
     ensures { RefusedFormsNeedStates }
+{}
+
+/// A query that is no filter needs many states on rows within its domains, with DISTINCT or without and whatever stands between its streams, where a part
+/// that leaves open which side of each `<>` between streams is less breaks a condition by its orders and equalities alone.
+pub fn near_parts_need_states()
+    ensures { NearPartsNeedStates }
+{}
+
+/// With DISTINCT, where no such part breaks a condition, some evaluator is right on rows within the domains and has few states, whatever stands between the
+/// streams of the query.
+pub fn unbroken_near_parts_have_few_states()
+    ensures { UnbrokenNearPartsHaveFewStates }
+{}
+
+/// So with DISTINCT these parts decide, whatever stands between its streams: a query needs many states on rows within its domains exactly where some such
+/// part breaks a condition.
+pub fn near_conditions_are_exact()
+    ensures { NearConditionsAreExact }
 {}
 
 /// Where no part of the split form breaks anything, some evaluator is right on rows within the domains and has few states, whatever the numbers of the
@@ -44,14 +63,13 @@ pub fn unbroken_parts_need_few_states()
     ensures { UnbrokenPartsNeedFewStates }
 {}
 
-/// The conditions of the split form are exact: a query that is no filter, compact or not, of which the integers just outside of those written have at most
-/// 15 digits and, with DISTINCT, each `<>` between streams has a side with both ends by the text, needs many states on rows within its domains, exactly
-/// where some part breaks a condition.
+/// The conditions of the split form are exact: a query that is no filter, compact or not, of which with DISTINCT each `<>` between streams has a side with
+/// both ends by the text, needs many states on rows within its domains, exactly where some part breaks a condition.
 pub fn split_conditions_are_exact()
     ensures { SplitConditionsAreExact }
 {}
 
-/// The verdict on a compact query is exact: under these premises, unless it has too many parts, it needs many states on rows within its domains exactly
+/// The verdict on a compact query is exact: under this premise, unless it has too many parts, it needs many states on rows within its domains exactly
 /// where its verdict is that it violates a condition.
 pub fn compact_verdicts_are_exact()
     ensures { CompactVerdictsAreExact }

@@ -14,7 +14,7 @@ use Rattle.sem_query.specs.Verdict.{Verdict}
 use Rattle.sem_query.specs.Verdict as verdicts
 use Rattle.sql_parser.specs.Naming.{column_text}
 use Rattle.sql_replies.specs.declared.refusal.Refusal.{Refusal}
-use Rattle.sql_replies.specs.declared.refusal.Refusal.TheVariants.{LineTooLong, Locked, Syntax, Limit, Duplicate, TooMany, UnknownStream, UnknownColumn, SelfJoin, UnknownQuery, Late, Arity, Value, Domain, RowLimit, WholeForm}
+use Rattle.sql_replies.specs.declared.refusal.Refusal.TheVariants.{LineTooLong, Locked, Syntax, Limit, Duplicate, TooMany, UnknownStream, UnknownColumn, SelfJoin, UnknownQuery, Late, Arity, Value, Domain, RowLimit}
 
 abbrev pub word_text : Refusal → List ℕ
 word_text LineTooLong = codes "LineTooLong"
@@ -32,7 +32,6 @@ word_text Arity = codes "Arity"
 word_text Value = codes "Value"
 word_text Domain = codes "Domain"
 word_text RowLimit = codes "RowLimit"
-word_text WholeForm = codes "WholeForm"
 
 abbrev pub condition_text : Condition → List ℕ
 condition_text C1 = codes "C1"

@@ -38,8 +38,6 @@ pub enum Refusal {
     Domain,
     /// As many rows were taken as the session may take, or a line says that more were.
     RowLimit,
-    /// A query is compact and its whole form fits, of which no certificate speaks.
-    WholeForm,
 }
 
 /// Returns the word for a refused row.

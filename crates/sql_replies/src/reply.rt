@@ -224,7 +224,6 @@ pub fn word_text(word: Refusal) -> &'static [u8]
         Refusal::Value => b"Value",
         Refusal::Domain => b"Domain",
         Refusal::RowLimit => b"RowLimit",
-        Refusal::WholeForm => b"WholeForm",
     }
 }
 

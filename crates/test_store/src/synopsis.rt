@@ -26,6 +26,14 @@ use std::marker::Brand;
 use std::sync::ledger::{Blank, Ledger};
 use std::test::Fail;
 
+// Rows, each with the place of its stream, and then a row of which the cells are asked.
+#[derive(Clone, Copy)]
+struct Probed<'a> {
+    rows: &'a [(u8, &'a [i64])],
+    pos: u8,
+    values: &'a [i64],
+}
+
 fn row_of(values: &[i64]) -> Row {
     let mut row = ArrayVec::new();
     for value in values {
@@ -121,20 +129,18 @@ fn answers<L: Ledger>(
     alloc: Global,
     q: &Query,
     part: &PartPlan,
-    rows: &[(u8, &[i64])],
-    pos: u8,
-    values: &[i64],
+    probed: &Probed<'_>,
     steps: &mut Steps<L>,
 ) -> Result<Vec<i64>, AllocError>
     requires several { 1 < length q.now.from }
     requires plain { q.now.distinct ≡ false }
     requires walked { (w : IsWalked q.now part.now) × (w.cells ≤ 320) }
-    requires few { length rows.now < 1000 }
-    ensures reads { steps.new.reads ≤ steps.old.reads + length rows.now + 3 * share part.now }
-    ensures writes { steps.new.writes ≤ steps.old.writes + length rows.now }
+    requires few { length probed.now.rows.now < 1000 }
+    ensures reads { steps.new.reads ≤ steps.old.reads + length probed.now.rows.now + 3 * share part.now }
+    ensures writes { steps.new.writes ≤ steps.old.writes + length probed.now.rows.now }
 {
     let mut pool = Pool::new(alloc, 5)?;
-    if usize::from(pos) >= q.from().len() {
+    if usize::from(probed.pos) >= q.from().len() {
         return Vec::from_slice(alloc, &[i64::MIN]);
     }
     let prepared = prepare(alloc, q, part)?;
@@ -147,8 +153,9 @@ fn answers<L: Ledger>(
         prepared: &prepared,
         extent: &e,
     };
-    take_rows(&mut pool, &met, rows, steps);
-    let told = walk(alloc, &pool, &met, pos, &row_of(values), steps);
+    take_rows(&mut pool, &met, probed.rows, steps);
+    let row = row_of(probed.values);
+    let told = walk(alloc, &pool, &met, probed.pos, &row, steps);
     pool.give_back(e);
     told
 }
@@ -181,25 +188,13 @@ const R_A: Attr = Attr {
     column: 0,
 };
 
-const R_C: Attr = Attr {
-    stream: 0,
-    column: 1,
-};
+const R_C: Attr = Attr { column: 1, ..R_A };
 
-const S_A: Attr = Attr {
-    stream: 1,
-    column: 0,
-};
+const S_A: Attr = Attr { stream: 1, ..R_A };
 
-const S_B: Attr = Attr {
-    stream: 1,
-    column: 1,
-};
+const S_B: Attr = Attr { column: 1, ..S_A };
 
-const T_A: Attr = Attr {
-    stream: 2,
-    column: 0,
-};
+const T_A: Attr = Attr { stream: 2, ..R_A };
 
 fn compared(left: Attr, op: Op, right: Element) -> Atom
     ensures { result ≡ record { left = element.Attr left; op = op; right = right } }
@@ -233,14 +228,12 @@ fn soft_link(left: Attr, op: Op, right: Attr) -> SoftLink
 fn of_two_streams<L: Ledger>(
     alloc: Global,
     blank: Blank,
-    rows: &[(u8, &[i64])],
-    pos: u8,
-    values: &[i64],
+    probed: &Probed<'_>,
 ) -> Result<Vec<i64>, AllocError>
     requires name { blank.name ≡ L.name }
     requires parts { blank.parts ≡ L.parts }
     requires two { 2 ≤ L.parts }
-    requires few { length rows.now < 1000 }
+    requires few { length probed.now.rows.now < 1000 }
 {
     let atoms = [
         compared(R_A, Op::Eq, Element::Attr(S_A)),
@@ -272,7 +265,7 @@ fn of_two_streams<L: Ledger>(
         soft: ArrayVec::new(),
     };
     let mut steps = Steps::<L>::new(blank);
-    answers(alloc, &q, &part, rows, pos, values, &mut steps)
+    answers(alloc, &q, &part, probed, &mut steps)
 }
 
 // The part does not admit R(3, 3), R(1, 2) and S(2, 2).
@@ -304,7 +297,12 @@ fn an_equality_and_an_inequality(rt: HostRuntime) -> Result<(), Fail> {
         (0, &[4, 5], &[]),
     ];
     for (pos, values, wanted) in cases {
-        let told = of_two_streams::<Brand>(rt.alloc(), Blank::new(2), &rows, pos, values)?;
+        let probed = Probed {
+            rows: &rows,
+            pos,
+            values,
+        };
+        let told = of_two_streams::<Brand>(rt.alloc(), Blank::new(2), &probed)?;
         assert_eq!(rt; told.as_slice(), wanted, "{values:?} at {pos}");
     }
     Ok(())
@@ -334,14 +332,12 @@ fn conditions(alloc: Global) -> Result<Vec<LocalCondition>, AllocError>
 fn of_other_links<L: Ledger>(
     alloc: Global,
     blank: Blank,
-    rows: &[(u8, &[i64])],
-    pos: u8,
-    values: &[i64],
+    probed: &Probed<'_>,
 ) -> Result<Vec<i64>, AllocError>
     requires name { blank.name ≡ L.name }
     requires parts { blank.parts ≡ L.parts }
     requires two { 2 ≤ L.parts }
-    requires few { length rows.now < 1000 }
+    requires few { length probed.now.rows.now < 1000 }
 {
     let atoms = [
         compared(R_A, Op::Le, Element::Attr(S_A)),
@@ -365,7 +361,7 @@ fn of_other_links<L: Ledger>(
         soft: listed(&[soft_link(R_A, Op::Le, S_A), soft_link(R_A, Op::Ne, S_B)]),
     };
     let mut steps = Steps::<L>::new(blank);
-    answers(alloc, &q, &part, rows, pos, values, &mut steps)
+    answers(alloc, &q, &part, probed, &mut steps)
 }
 
 // The part does not admit R(2, 3), R(4, 4) and S(1, 2).
@@ -393,7 +389,12 @@ fn conditions_and_other_links(rt: HostRuntime) -> Result<(), Fail> {
         (0, &[3, 3], &[3, 1, 1]),
     ];
     for (pos, values, wanted) in cases {
-        let told = of_other_links::<Brand>(rt.alloc(), Blank::new(2), &rows, pos, values)?;
+        let probed = Probed {
+            rows: &rows,
+            pos,
+            values,
+        };
+        let told = of_other_links::<Brand>(rt.alloc(), Blank::new(2), &probed)?;
         assert_eq!(rt; told.as_slice(), wanted, "{values:?} at {pos}");
     }
     Ok(())
@@ -402,14 +403,12 @@ fn conditions_and_other_links(rt: HostRuntime) -> Result<(), Fail> {
 // SELECT R.a FROM R, S, T WHERE R.a = S.a AND S.a = T.a AND R.a > 0 AND R.a < 101. A walk reads three cells at most.
 fn of_a_chain<L: Ledger>(
     alloc: Global,
-    rows: &[(u8, &[i64])],
-    pos: u8,
-    values: &[i64],
+    probed: &Probed<'_>,
     steps: &mut Steps<L>,
 ) -> Result<Vec<i64>, AllocError>
-    requires few { length rows.now < 1000 }
-    ensures reads { steps.new.reads ≤ steps.old.reads + length rows.now + 3 }
-    ensures writes { steps.new.writes ≤ steps.old.writes + length rows.now }
+    requires few { length probed.now.rows.now < 1000 }
+    ensures reads { steps.new.reads ≤ steps.old.reads + length probed.now.rows.now + 3 }
+    ensures writes { steps.new.writes ≤ steps.old.writes + length probed.now.rows.now }
 {
     let atoms = [
         compared(R_A, Op::Eq, Element::Attr(S_A)),
@@ -430,23 +429,21 @@ fn of_a_chain<L: Ledger>(
         local: Locals::of(Vec::new(alloc)),
         soft: ArrayVec::new(),
     };
-    answers(alloc, &q, &part, rows, pos, values, steps)
+    answers(alloc, &q, &part, probed, steps)
 }
 
 fn told_of_a_chain<L: Ledger>(
     alloc: Global,
     blank: Blank,
-    rows: &[(u8, &[i64])],
-    pos: u8,
-    values: &[i64],
+    probed: &Probed<'_>,
 ) -> Result<Vec<i64>, AllocError>
     requires name { blank.name ≡ L.name }
     requires parts { blank.parts ≡ L.parts }
     requires two { 2 ≤ L.parts }
-    requires few { length rows.now < 1000 }
+    requires few { length probed.now.rows.now < 1000 }
 {
     let mut steps = Steps::<L>::new(blank);
-    of_a_chain(alloc, rows, pos, values, &mut steps)
+    of_a_chain(alloc, probed, &mut steps)
 }
 
 // The part does not admit T(101).
@@ -476,7 +473,12 @@ fn a_chain_of_equalities(rt: HostRuntime) -> Result<(), Fail> {
         (2, &[1], &[]),
     ];
     for (pos, values, wanted) in cases {
-        let told = told_of_a_chain::<Brand>(rt.alloc(), Blank::new(2), &rows, pos, values)?;
+        let probed = Probed {
+            rows: &rows,
+            pos,
+            values,
+        };
+        let told = told_of_a_chain::<Brand>(rt.alloc(), Blank::new(2), &probed)?;
         assert_eq!(rt; told.as_slice(), wanted, "{values:?} at {pos}");
     }
     Ok(())

@@ -3,6 +3,7 @@ ghost use Rattle.std.specs.Prelude.{◌≡◌, ◌≤◌, ◌<◌, ◌+◌, leng
 ghost use Rattle.plan_constraints.specs.Solutions.{IsSatisfiable};
 
 use crate::fault::Fault;
+use crate::writing::put;
 use arrayvec::ArrayVec;
 use io_streams::{Sink, write_all};
 use plan_closure::Bounds;
@@ -74,10 +75,7 @@ fn add_all(bounds: &mut Bounds, attrs: u8, integers: &[i64]) -> Result<(), Fault
 // A bound, or a star where there is none.
 fn show_bound<O: Sink>(alloc: Global, bound: Option<i128>, out: &mut O) -> Result<(), Fault> {
     match bound {
-        Some(bound) => {
-            let text = format!(in alloc; "{bound}")?;
-            write_all(out, text.as_bytes())?;
-        }
+        Some(bound) => put(out, format!(in alloc; "{bound}")?)?,
         None => write_all(out, b"*")?,
     }
     Ok(())

@@ -3,12 +3,11 @@ ghost use Rattle.std.specs.Prelude.{All};
 ghost use Rattle.sem_query.specs.Parts.{IsPart, sign_lists};
 
 use crate::fault::Fault;
-use crate::query::query_of;
+use crate::writing::{put, put_column};
 use io_streams::{Sink, write_all};
 use plan_links::{Basis, Refs, refs};
 use plan_parts::{SplitError, split};
 use sem_query::{Attr, Link, Part, Query};
-use sql_catalog::Catalog;
 use std::alloc::Global;
 
 // Each attribute with its range, a star where it has none, and the place of its class.
@@ -19,18 +18,13 @@ fn show_attrs<O: Sink>(
     out: &mut O,
 ) -> Result<(), Fault> {
     for (i, attr) in attrs.iter().enumerate() {
-        let text = format!(in alloc; "{}.{} ", attr.stream, attr.column)?;
-        write_all(out, text.as_bytes())?;
+        put_column(alloc, "", *attr, out)?;
         match told.ranges.as_slice().get(i) {
-            Some(Some(range)) => {
-                let text = format!(in alloc; "{}..{}", range.lo, range.hi)?;
-                write_all(out, text.as_bytes())?;
-            }
-            _ => write_all(out, b"*")?,
+            Some(Some(range)) => put(out, format!(in alloc; " {}..{}", range.lo, range.hi)?)?,
+            _ => write_all(out, b" *")?,
         }
         let class = told.class.as_slice().get(i).copied().unwrap_or(255);
-        let text = format!(in alloc; " @{class}, ")?;
-        write_all(out, text.as_bytes())?;
+        put(out, format!(in alloc; " @{class}, ")?)?;
     }
     Ok(())
 }
@@ -44,12 +38,8 @@ fn show_links<O: Sink>(
 ) -> Result<(), Fault> {
     write_all(out, sign.as_bytes())?;
     for link in links {
-        let (left, right) = (link.left, link.right);
-        let text = format!(in alloc;
-            " {}.{}-{}.{}",
-            left.stream, left.column, right.stream, right.column
-        )?;
-        write_all(out, text.as_bytes())?;
+        put_column(alloc, " ", link.left, out)?;
+        put_column(alloc, "-", link.right, out)?;
     }
     Ok(())
 }
@@ -63,8 +53,7 @@ fn show_references<O: Sink>(
 ) -> Result<(), Fault> {
     write_all(out, word.as_bytes())?;
     for attr in attrs {
-        let text = format!(in alloc; " {}.{}", attr.stream, attr.column)?;
-        write_all(out, text.as_bytes())?;
+        put_column(alloc, " ", *attr, out)?;
     }
     Ok(())
 }
@@ -95,25 +84,19 @@ fn show_each<O: Sink>(
     requires { All (IsPart query.now) (sign_lists parts.now) }
 {
     let basis = Basis::new(query);
-    let mut bounds = basis.room();
+    let mut distances = basis.begin();
     for part in parts {
-        let told = refs(query, part, &basis, &mut bounds);
+        let told = refs(query, part, &basis, &mut distances);
         show_told(alloc, query.attrs(), &told, out)?;
     }
     Ok(())
 }
 
-/// Writes what is told of each part of the query of a CREATE QUERY statement: each attribute by place of FROM and column, its range or a
-/// star, and the place of its class; the equalities, the inequalities, and the references on both sides.
-pub fn show_refs<O: Sink>(
-    alloc: Global,
-    catalog: &Catalog,
-    text: &[u8],
-    out: &mut O,
-) -> Result<(), Fault> {
-    let query = query_of(catalog, text)?;
-    match split(alloc, &query) {
-        Ok(parts) => show_each(alloc, &query, &parts, out),
+/// Writes what is told of each part of a query: each attribute by place of FROM and column, its range or a star, and the place of its class;
+/// the equalities, the inequalities, and the references on both sides.
+pub fn show_refs<O: Sink>(alloc: Global, query: &Query, out: &mut O) -> Result<(), Fault> {
+    match split(alloc, query) {
+        Ok(parts) => show_each(alloc, query, &parts, out),
         Err(SplitError::TooManyParts) => Err(Fault::Line),
         Err(SplitError::Memory) => Err(Fault::Memory),
     }

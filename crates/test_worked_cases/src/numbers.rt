@@ -3,13 +3,12 @@ ghost use Rattle.std.specs.Prelude.{◌≤◌, length};
 ghost use Rattle.sem_query.specs.Parts.{AreParts, sign_lists};
 
 use crate::fault::Fault;
-use crate::query::query_of;
+use crate::writing::put;
 use io_streams::{Sink, write_all};
 use plan_conditions::decide;
 use plan_layout::{LayoutError, layout};
 use plan_parts::{SplitError, split};
 use sem_query::{Decision, Numbers, Part, Plan, Query, Which};
-use sql_catalog::Catalog;
 use std::alloc::Global;
 
 fn show_numbers<O: Sink>(alloc: Global, numbers: Numbers, out: &mut O) -> Result<(), Fault> {
@@ -19,9 +18,10 @@ fn show_numbers<O: Sink>(alloc: Global, numbers: Numbers, out: &mut O) -> Result
         answers,
         work,
     } = numbers;
-    let text = format!(in alloc; "parts {parts} cells {cells} answers {answers} work {work}")?;
-    write_all(out, text.as_bytes())?;
-    Ok(())
+    put(
+        out,
+        format!(in alloc; "parts {parts} cells {cells} answers {answers} work {work}")?,
+    )
 }
 
 // The number that is above its limit.
@@ -32,9 +32,7 @@ fn show_limit<O: Sink>(alloc: Global, which: Which, value: u64, out: &mut O) -> 
         Which::Answers => "answers",
         Which::Work => "work",
     };
-    let text = format!(in alloc; "too many {name}: {value}")?;
-    write_all(out, text.as_bytes())?;
-    Ok(())
+    put(out, format!(in alloc; "too many {name}: {value}")?)
 }
 
 // The plan of a query that meets all conditions.
@@ -81,16 +79,10 @@ fn show_decided<O: Sink>(
     }
 }
 
-/// Writes the numbers of the plan of the query of a CREATE QUERY statement, or the first that is above its limit.
-pub fn show_planned<O: Sink>(
-    alloc: Global,
-    catalog: &Catalog,
-    text: &[u8],
-    out: &mut O,
-) -> Result<(), Fault> {
-    let query = query_of(catalog, text)?;
-    match split(alloc, &query) {
-        Ok(parts) => show_decided(alloc, &query, &parts, out),
+/// Writes the numbers of the plan of a query, or the first that is above its limit.
+pub fn show_planned<O: Sink>(alloc: Global, query: &Query, out: &mut O) -> Result<(), Fault> {
+    match split(alloc, query) {
+        Ok(parts) => show_decided(alloc, query, &parts, out),
         Err(SplitError::TooManyParts) => {
             write_all(out, b"too many parts")?;
             Ok(())

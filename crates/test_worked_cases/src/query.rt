@@ -1,5 +1,5 @@
 //! The query that a line asks about.
-ghost use Rattle.std.specs.Prelude.{◌≡◌, None};
+ghost use Rattle.std.specs.Prelude.{◌≡◌, ◌≤◌, None, length};
 ghost use Rattle.sql_parser.specs.Grammar.{IsWhole};
 ghost use Rattle.sql_parser.specs.Limits.{limit_of};
 
@@ -23,10 +23,9 @@ fn query_of_statement(catalog: &Catalog, statement: Statement) -> Result<Query, 
 }
 
 /// Returns the query of a CREATE QUERY statement. A fault where the text is another line, or is refused.
-pub fn query_of(catalog: &Catalog, text: &[u8]) -> Result<Query, Fault> {
-    if text.len() > 1024 {
-        return Err(Fault::Line);
-    }
+pub fn query_of(catalog: &Catalog, text: &[u8]) -> Result<Query, Fault>
+    requires { length text.now ≤ 1024 }
+{
     match parse(text) {
         Ok(statement) => query_of_statement(catalog, statement),
         Err(_) => Err(Fault::Line),

@@ -9,6 +9,7 @@ ghost use Rattle.sql_parser.specs.Resolution.{IsTaken};
 
 use crate::fault::Fault;
 use crate::texts::show_refused;
+use crate::writing::put;
 use io_streams::{Sink, write_all};
 use sem_query::Row;
 use sql_catalog::{Catalog, ColumnDef};
@@ -16,6 +17,15 @@ use sql_parser::{LineKind, SelectAst, Statement, classify, parse, resolve};
 use sql_printer::{print_query, put_create_line};
 use sql_text::Name;
 use std::alloc::Global;
+
+/// In which form a query is written.
+#[derive(Clone, Copy)]
+pub enum QueryForm {
+    /// From SELECT on.
+    Select,
+    /// As the line that creates it again.
+    CreateLine,
+}
 
 // The number of a stream that is added, or why it is refused.
 fn show_added<O: Sink>(
@@ -29,12 +39,10 @@ fn show_added<O: Sink>(
     requires few { length columns.now ≤ 8 }
     requires domains { All (λ c. HasEnds c.domain) columns.now }
 {
-    let text = match catalog.add_stream(name, columns) {
-        Ok(number) => format!(in alloc; "stream {number}")?,
-        Err(error) => format!(in alloc; "{error:?}")?,
-    };
-    write_all(out, text.as_bytes())?;
-    Ok(())
+    match catalog.add_stream(name, columns) {
+        Ok(number) => put(out, format!(in alloc; "stream {number}")?),
+        Err(error) => put(out, format!(in alloc; "{error:?}")?),
+    }
 }
 
 // The stream that a statement creates.
@@ -62,10 +70,9 @@ pub fn show_stream<O: Sink>(
     catalog: &mut Catalog,
     text: &[u8],
     out: &mut O,
-) -> Result<(), Fault> {
-    if text.len() > 1024 {
-        return Err(Fault::Line);
-    }
+) -> Result<(), Fault>
+    requires { length text.now ≤ 1024 }
+{
     match parse(text) {
         Ok(statement) => show_created(alloc, catalog, statement, out),
         Err(error) => show_refused(alloc, error, out),
@@ -79,12 +86,10 @@ fn show_values<O: Sink>(
     values: &[i64],
     out: &mut O,
 ) -> Result<(), Fault> {
-    let text = format!(in alloc; "stream {stream}:")?;
-    write_all(out, text.as_bytes())?;
+    put(out, format!(in alloc; "stream {stream}:")?)?;
     for (i, value) in values.iter().enumerate() {
         let before = if i == 0 { " " } else { ", " };
-        let text = format!(in alloc; "{before}{value}")?;
-        write_all(out, text.as_bytes())?;
+        put(out, format!(in alloc; "{before}{value}")?)?;
     }
     Ok(())
 }
@@ -101,11 +106,7 @@ fn show_read<O: Sink>(
     let mut row = Row::new();
     match catalog.read_row(line, &mut row) {
         Ok(stream) => show_values(alloc, stream, row.as_slice(), out),
-        Err(error) => {
-            let text = format!(in alloc; "{error:?}")?;
-            write_all(out, text.as_bytes())?;
-            Ok(())
-        }
+        Err(error) => put(out, format!(in alloc; "{error:?}")?),
     }
 }
 
@@ -124,21 +125,24 @@ pub fn show_row<O: Sink>(
     Ok(())
 }
 
-// The query that is asked for, printed from SELECT on.
+// Writes a query in a form, or why it is refused.
 fn show_resolved<O: Sink>(
     alloc: Global,
     catalog: &Catalog,
+    name: &Name,
     select: &SelectAst,
+    shared: bool,
+    form: QueryForm,
     out: &mut O,
 ) -> Result<(), Fault>
     requires { IsTaken select.now }
 {
     match resolve(select, catalog) {
-        Ok(query) => print_query(&query, catalog, out)?,
-        Err(error) => {
-            let text = format!(in alloc; "{error:?}")?;
-            write_all(out, text.as_bytes())?;
-        }
+        Ok(query) => match form {
+            QueryForm::Select => print_query(&query, catalog, out)?,
+            QueryForm::CreateLine => put_create_line(name, &query, shared, catalog, out)?,
+        },
+        Err(error) => put(out, format!(in alloc; "{error:?}")?)?,
     }
     Ok(())
 }
@@ -148,60 +152,7 @@ fn show_asked<O: Sink>(
     alloc: Global,
     catalog: &Catalog,
     statement: Statement,
-    out: &mut O,
-) -> Result<(), Fault>
-    requires whole { IsWhole statement }
-    requires limits { limit_of statement ≡ None }
-{
-    match statement {
-        Statement::CreateQuery { select, .. } => show_resolved(alloc, catalog, &select, out)?,
-        _ => write_all(out, b"no query statement")?,
-    }
-    Ok(())
-}
-
-/// Writes the query that a text creates, printed from SELECT on, or why it is refused.
-pub fn show_query<O: Sink>(
-    alloc: Global,
-    catalog: &Catalog,
-    text: &[u8],
-    out: &mut O,
-) -> Result<(), Fault> {
-    if text.len() > 1024 {
-        return Err(Fault::Line);
-    }
-    match parse(text) {
-        Ok(statement) => show_asked(alloc, catalog, statement, out),
-        Err(error) => show_refused(alloc, error, out),
-    }
-}
-
-// The line that creates a query again.
-fn show_line<O: Sink>(
-    alloc: Global,
-    catalog: &Catalog,
-    name: &Name,
-    select: &SelectAst,
-    shared: bool,
-    out: &mut O,
-) -> Result<(), Fault>
-    requires { IsTaken select.now }
-{
-    match resolve(select, catalog) {
-        Ok(query) => put_create_line(name, &query, shared, catalog, out)?,
-        Err(error) => {
-            let text = format!(in alloc; "{error:?}")?;
-            write_all(out, text.as_bytes())?;
-        }
-    }
-    Ok(())
-}
-
-// The line that creates again what a statement creates.
-fn show_again<O: Sink>(
-    alloc: Global,
-    catalog: &Catalog,
-    statement: Statement,
+    form: QueryForm,
     out: &mut O,
 ) -> Result<(), Fault>
     requires whole { IsWhole statement }
@@ -212,24 +163,26 @@ fn show_again<O: Sink>(
             name,
             select,
             shared,
-        } => show_line(alloc, catalog, &name, &select, shared, out)?,
-        _ => write_all(out, b"no query statement")?,
+        } => show_resolved(alloc, catalog, &name, &select, shared, form, out),
+        _ => {
+            write_all(out, b"no query statement")?;
+            Ok(())
+        }
     }
-    Ok(())
 }
 
-/// Writes the line that creates again the query that a text creates, or why it is refused.
-pub fn show_create_line<O: Sink>(
+/// Writes the query that a text creates, in a form, or why it is refused.
+pub fn show_query<O: Sink>(
     alloc: Global,
     catalog: &Catalog,
+    form: QueryForm,
     text: &[u8],
     out: &mut O,
-) -> Result<(), Fault> {
-    if text.len() > 1024 {
-        return Err(Fault::Line);
-    }
+) -> Result<(), Fault>
+    requires { length text.now ≤ 1024 }
+{
     match parse(text) {
-        Ok(statement) => show_again(alloc, catalog, statement, out),
+        Ok(statement) => show_asked(alloc, catalog, statement, form, out),
         Err(error) => show_refused(alloc, error, out),
     }
 }

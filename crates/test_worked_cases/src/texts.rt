@@ -1,5 +1,8 @@
 //! What a text says by itself.
+ghost use Rattle.std.specs.Prelude.{◌≤◌, length};
+
 use crate::fault::Fault;
+use crate::writing::put;
 use io_streams::{Sink, write_all, write_pieces};
 use sql_lexer::{Tokens, lex};
 use sql_parser::{ParseError, classify, parse};
@@ -13,42 +16,36 @@ fn show_tokens<O: Sink>(alloc: Global, tokens: &Tokens, out: &mut O) -> Result<(
     }
     for (i, token) in tokens.as_slice().iter().enumerate() {
         let before = if i == 0 { "" } else { ", " };
-        let text = format!(in alloc; "{before}{:?} {}..{}", token.kind, token.from, token.to)?;
-        write_all(out, text.as_bytes())?;
+        put(
+            out,
+            format!(in alloc; "{before}{:?} {}..{}", token.kind, token.from, token.to)?,
+        )?;
     }
     Ok(())
 }
 
 /// Writes the tokens of a text, or where none begins.
-pub fn show_lexed<O: Sink>(alloc: Global, text: &[u8], out: &mut O) -> Result<(), Fault> {
-    if text.len() > 1024 {
-        return Err(Fault::Line);
-    }
+pub fn show_lexed<O: Sink>(alloc: Global, text: &[u8], out: &mut O) -> Result<(), Fault>
+    requires { length text.now ≤ 1024 }
+{
     match lex(text) {
         Ok(tokens) => show_tokens(alloc, &tokens, out),
-        Err(fault) => {
-            let text = format!(in alloc; "refused at {}", fault.at)?;
-            write_all(out, text.as_bytes())?;
-            Ok(())
-        }
+        Err(fault) => put(out, format!(in alloc; "refused at {}", fault.at)?),
     }
 }
 
 /// Writes why a text is no statement that is taken.
 pub fn show_refused<O: Sink>(alloc: Global, error: ParseError, out: &mut O) -> Result<(), Fault> {
-    let refusal = match error {
-        ParseError::Syntax { at } => format!(in alloc; "Syntax at {at}")?,
-        ParseError::Limit { what } => format!(in alloc; "Limit {what:?}")?,
-    };
-    write_all(out, refusal.as_bytes())?;
-    Ok(())
+    match error {
+        ParseError::Syntax { at } => put(out, format!(in alloc; "Syntax at {at}")?),
+        ParseError::Limit { what } => put(out, format!(in alloc; "Limit {what:?}")?),
+    }
 }
 
 /// Writes the statement that a text is, in its printed form.
-pub fn show_parsed<O: Sink>(alloc: Global, text: &[u8], out: &mut O) -> Result<(), Fault> {
-    if text.len() > 1024 {
-        return Err(Fault::Line);
-    }
+pub fn show_parsed<O: Sink>(alloc: Global, text: &[u8], out: &mut O) -> Result<(), Fault>
+    requires { length text.now ≤ 1024 }
+{
     match parse(text) {
         Ok(statement) => print(&statement, out)?,
         Err(error) => show_refused(alloc, error, out)?,
@@ -77,10 +74,7 @@ pub fn show_name<O: Sink>(text: &[u8], out: &mut O) -> Result<(), Fault> {
 /// Writes the value that a text is.
 pub fn show_value<O: Sink>(alloc: Global, text: &[u8], out: &mut O) -> Result<(), Fault> {
     match read_i64(text) {
-        Some(value) => {
-            let text = format!(in alloc; "{value}")?;
-            write_all(out, text.as_bytes())?;
-        }
+        Some(value) => put(out, format!(in alloc; "{value}")?)?,
         None => write_all(out, b"no value")?,
     }
     Ok(())

@@ -1,26 +1,22 @@
 //! The whole form of queries: what it breaks, or its one part.
 use crate::fault::Fault;
-use crate::query::query_of;
+use crate::writing::{put, put_column};
 use arrayvec::ArrayVec;
 use io_streams::{Sink, write_all};
 use plan_split_parts::closed_query;
 use plan_whole::ColumnLink;
 use plan_whole_form::{PartNumbers, Whole, WholePart, WholeStream, numbers_of, whole_over};
-use sem_query::{Break, Condition, Dim, Element, Kind, Link, LocalCondition, Op};
-use sql_catalog::Catalog;
+use sem_query::{Break, Condition, Dim, Element, Kind, Link, LocalCondition, Op, Query};
 use std::alloc::Global;
 
 // The first condition that is broken, and the column that shows it.
 fn show_break<O: Sink>(alloc: Global, found: Break, out: &mut O) -> Result<(), Fault> {
     let name = match found.condition {
-        Condition::C1 => "C1",
-        Condition::C2 => "C2",
-        Condition::C3 => "C3",
+        Condition::C1 => "C1 ",
+        Condition::C2 => "C2 ",
+        Condition::C3 => "C3 ",
     };
-    let attr = found.attr;
-    let text = format!(in alloc; "{name} {}.{}", attr.stream, attr.column)?;
-    write_all(out, text.as_bytes())?;
-    Ok(())
+    put_column(alloc, name, found.attr, out)
 }
 
 fn sign_of(op: Op) -> &'static str {
@@ -37,21 +33,16 @@ fn sign_of(op: Op) -> &'static str {
 // The links of a part.
 fn show_links<O: Sink>(alloc: Global, links: &[ColumnLink], out: &mut O) -> Result<(), Fault> {
     for link in links {
-        let (left, op, right) = (link.left, sign_of(link.op), link.right);
-        let text = format!(in alloc;
-            " {}.{}{op}{}.{}",
-            left.stream, left.column, right.stream, right.column
-        )?;
-        write_all(out, text.as_bytes())?;
+        put_column(alloc, " ", link.left, out)?;
+        put_column(alloc, sign_of(link.op), link.right, out)?;
     }
     Ok(())
 }
 
 fn show_dims<O: Sink>(alloc: Global, dims: &[Dim], out: &mut O) -> Result<(), Fault> {
     for dim in dims {
-        let (attr, lo, hi) = (dim.attr, dim.lo, dim.hi);
-        let text = format!(in alloc; " {}.{} {lo}..{hi}", attr.stream, attr.column)?;
-        write_all(out, text.as_bytes())?;
+        put_column(alloc, " ", dim.attr, out)?;
+        put(out, format!(in alloc; " {}..{}", dim.lo, dim.hi)?)?;
     }
     Ok(())
 }
@@ -60,14 +51,8 @@ fn show_kind<O: Sink>(alloc: Global, kind: Kind, out: &mut O) -> Result<(), Faul
     match kind {
         Kind::Count => write_all(out, b" count")?,
         Kind::Present => write_all(out, b" present")?,
-        Kind::Least(attr) => {
-            let text = format!(in alloc; " least {}.{}", attr.stream, attr.column)?;
-            write_all(out, text.as_bytes())?;
-        }
-        Kind::Greatest(attr) => {
-            let text = format!(in alloc; " greatest {}.{}", attr.stream, attr.column)?;
-            write_all(out, text.as_bytes())?;
-        }
+        Kind::Least(attr) => put_column(alloc, " least ", attr, out)?,
+        Kind::Greatest(attr) => put_column(alloc, " greatest ", attr, out)?,
     }
     Ok(())
 }
@@ -82,19 +67,17 @@ fn show_streams<O: Sink>(alloc: Global, streams: &[WholeStream], out: &mut O) ->
     Ok(())
 }
 
-// The side of a condition on the right.
-fn show_right<O: Sink>(alloc: Global, right: Element, out: &mut O) -> Result<(), Fault> {
+// The side of a condition on the right, behind its sign.
+fn show_right<O: Sink>(
+    alloc: Global,
+    sign: &str,
+    right: Element,
+    out: &mut O,
+) -> Result<(), Fault> {
     match right {
-        Element::Attr(attr) => {
-            let text = format!(in alloc; "{}.{}", attr.stream, attr.column)?;
-            write_all(out, text.as_bytes())?;
-        }
-        Element::Const(k) => {
-            let text = format!(in alloc; "{k}")?;
-            write_all(out, text.as_bytes())?;
-        }
+        Element::Attr(attr) => put_column(alloc, sign, attr, out),
+        Element::Const(k) => put(out, format!(in alloc; "{sign}{k}")?),
     }
-    Ok(())
 }
 
 // What the rows of the streams are asked.
@@ -104,13 +87,11 @@ fn show_conditions<O: Sink>(
     out: &mut O,
 ) -> Result<(), Fault> {
     for condition in conditions {
-        let (left, op, by) = (condition.left, sign_of(condition.op), condition.by);
-        let text = format!(in alloc; " {}.{}{op}", left.stream, left.column)?;
-        write_all(out, text.as_bytes())?;
-        show_right(alloc, condition.right, out)?;
+        let by = condition.by;
+        put_column(alloc, " ", condition.left, out)?;
+        show_right(alloc, sign_of(condition.op), condition.right, out)?;
         if by != 0 {
-            let text = format!(in alloc; "{by:+}")?;
-            write_all(out, text.as_bytes())?;
+            put(out, format!(in alloc; "{by:+}")?)?;
         }
     }
     Ok(())
@@ -143,23 +124,19 @@ fn show_part<O: Sink>(alloc: Global, part: &WholePart, out: &mut O) -> Result<()
         equal.as_slice(),
         part.selected.as_slice(),
     );
-    let text = format!(in alloc; "cells {cells} answers {answers} work {work} links")?;
-    write_all(out, text.as_bytes())?;
+    put(
+        out,
+        format!(in alloc; "cells {cells} answers {answers} work {work} links")?,
+    )?;
     show_links(alloc, links, out)?;
     show_streams(alloc, part.streams.as_slice(), out)?;
     write_all(out, b"; asked")?;
     show_conditions(alloc, part.conditions.as_slice(), out)
 }
 
-/// Writes the whole form of the query of a CREATE QUERY statement.
-pub fn show_whole<O: Sink>(
-    alloc: Global,
-    catalog: &Catalog,
-    text: &[u8],
-    out: &mut O,
-) -> Result<(), Fault> {
-    let query = query_of(catalog, text)?;
-    let whole = match closed_query(&query) {
+/// Writes the whole form of a query.
+pub fn show_whole<O: Sink>(alloc: Global, query: &Query, out: &mut O) -> Result<(), Fault> {
+    let whole = match closed_query(query) {
         None => Whole::Contradiction,
         Some(closed) => whole_over(alloc, &closed)?,
     };

@@ -601,6 +601,20 @@ os.write = stalls
         self.until(lambda: b" rows, " in self.get("said"))
         self.end(process)
 
+    def test_a_signal_to_the_whole_group_is_minded_by_the_keeper_alone(self):
+        """As a terminal sends it, or a supervisor that names no process: bq takes its rows and its last checkpoint."""
+        for count, one in enumerate((signal.SIGHUP, signal.SIGINT, signal.SIGTERM), 1):
+            process = self.start("--output", self.path("out"), "--from", str(4 * count - 4), stdin=subprocess.PIPE, start_new_session=True)
+            process.stdin.write(rows(count))
+            self.until(lambda: self.get("out") == answers(*range(1, count + 1)))
+            os.killpg(process.pid, one)
+            if one == signal.SIGHUP:
+                self.until(lambda: self.has_bytes(4))
+                process.stdin.close()
+            self.assertEqual(process.wait(PATIENCE), 0, self.get("said"))
+            self.assertTrue(self.has_bytes(4 * count))
+        self.assertNotIn(b"bq ended by itself", self.get("said"))
+
     def test_a_dead_bq_is_begun_again(self):
         for words, feeds in ((["--output", self.path("out")], True), (["--follow", self.path("rows"), "--output", self.path("out2")], False)):
             self.put("rows", rows(1, 2))

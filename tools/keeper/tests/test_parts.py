@@ -1,21 +1,26 @@
 """The parts of the keeper that need no bq: lines, files that are renamed, outputs, and the text of a checkpoint."""
+import contextlib
 import os
 import random
+import select
 import sys
 import tempfile
+import time
 import unittest
 import warnings
 from types import SimpleNamespace
+from unittest import mock
 
 sys.dont_write_bytecode = True
 sys.path.insert(0, os.path.dirname(os.path.dirname(os.path.dirname(os.path.abspath(__file__)))))
 
-from keeper import Fault  # noqa: E402
+from keeper import Fault, stream  # noqa: E402
 from keeper.checkpoint import Checkpoint, Mark, Place, choose, path_of, read, save, sum_of, written  # noqa: E402
 from keeper.heard import Acks, Changes  # noqa: E402
 from keeper.run import KEPT, Run  # noqa: E402
-from keeper.sink import Outlet, Sink  # noqa: E402
-from keeper.source import LONGEST, File, Source  # noqa: E402
+from keeper.sink import Sink  # noqa: E402
+from keeper.source import File, Source  # noqa: E402
+from keeper.stream import LONGEST, Lines, Outlet, Way, pass_on  # noqa: E402
 
 
 def plain_lines(text):
@@ -270,6 +275,73 @@ class NobodyIsWaitedFor(unittest.TestCase):
             while not reader.read(1 << 20).endswith(b"c"):
                 outlet.put()
             self.assertEqual((outlet.written, bytes(outlet.pending)), (2, b""))
+
+
+class LinesArePassedOn(unittest.TestCase):
+    def setUp(self):
+        """Rows come from a pipe, and go into another one."""
+        (of, self.given), (self.taken, to) = os.pipe(), os.pipe()
+        for fd in (of, self.given, self.taken, to):
+            self.addCleanup(os.close, fd)
+        self.lines, self.outlet, self.changed, self.counted = Lines(of), Outlet(to, "pipe"), [], []
+        self.outlet.room = 4096
+
+    def way(self, is_reply=False):
+        return Way(self.lines, self.outlet, self.changed.append, self.counted.append, is_reply)
+
+    def pass_on(self, way, *pieces, is_plain=True):
+        """Passes on pieces that come one by one, and nothing behind them."""
+        pieces, waits = list(pieces), []
+
+        def look(pause):
+            waits.append(pause)
+            if pieces:
+                os.write(self.given, pieces.pop(0))
+            return select.select([self.lines.fd], [], [], 0)[0] and [(self.lines.fd, select.POLLIN)]
+
+        result = pass_on({self.lines.fd: way.begin(is_plain)}, look, 100, time.monotonic() + 1000)
+        way.end()
+        return result, waits
+
+    def test_whole_lines_go_on_as_they_came_and_are_counted_once(self):
+        result, _ = self.pass_on(self.way(), b"S,1\n", b"S,2\nS, 3\n", b"S,4\n")
+        self.assertEqual((result, os.read(self.taken, 100)), ((None, b""), b"S,1\nS,2\nS, 3\nS,4\n"))
+        self.assertEqual((self.counted, self.lines.came, self.outlet.written), ([b"S,1\nS,2\nS, 3\nS,4\n"], 17, 17))
+        self.assertEqual((self.outlet.room, self.changed), (4096 - 17, []))
+
+    def test_what_has_to_be_changed_is_given_back(self):
+        for is_reply, is_plain, room, piece in ((False, True, 4096, b"S,1\nS,"), (True, True, 4096, b"error 3 Value\n"), (False, False, 4096, b"S,1\n"), (False, True, 3, b"S,1\n")):
+            self.outlet.room, way = room, self.way(is_reply)
+            self.assertEqual((self.pass_on(way, piece, is_plain=is_plain)[0], self.counted), ((way, piece), []))
+
+    def test_of_what_was_taken_in_part_the_rest_waits(self):
+        os.set_blocking(self.outlet.fd, False)
+        with contextlib.suppress(BlockingIOError):
+            while os.write(self.outlet.fd, b"x" * 4096):
+                pass
+        self.pass_on(self.way(), b"S,1\n")
+        self.assertEqual((bytes(self.outlet.pending), self.outlet.written, self.counted), (b"S,1\n", 0, [b"S,1\n"]))
+
+    def test_what_follows_is_asked_for_only_while_waits_are_short(self):
+        """A wait in which the clock stands still is short."""
+        way, looks = self.way(), 5
+        clock = iter(range(1000))
+        with mock.patch.multiple(stream, LOOKS=looks, monotonic=lambda: next(clock)):
+            # nothing follows, and it is told by the clock that the wait was long: from then on it sleeps at once
+            self.assertEqual(self.pass_on(way, b"S,1\n")[1], [100] + [0] * (looks + 1) + [100])
+            for _ in range(3):
+                self.assertEqual(self.pass_on(way, b"S,1\n")[1], [100, 0, 100])
+        with mock.patch.multiple(stream, LOOKS=looks, monotonic=lambda: 0):
+            # as often as it was in vain it doubles how many short waits it wants to see
+            for vain in (2, 4, 8):
+                for _ in range(vain):
+                    self.assertEqual(self.pass_on(way, b"S,1\n")[1], [100, 0, 100])
+                self.assertEqual(self.pass_on(way, b"S,1\n")[1], [100] + [0] * (looks + 1) + [100])
+            for _ in range(16):
+                self.pass_on(way, b"S,1\n")
+            # what is found by asking has it ask again
+            self.assertEqual(self.pass_on(way, b"S,1\n", b"S,2\n")[1], [100, 0] + [0] * (looks + 1) + [100])
+            self.assertEqual(way.vain, 1)
 
 
 class LinesAreKept(unittest.TestCase):

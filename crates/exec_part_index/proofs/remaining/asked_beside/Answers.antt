@@ -8,8 +8,8 @@ use Rattle.exec_part_index.proofs.remaining.asked_beside.Goals as goal
 pub tests-preserved : goal.tests-preserved
 tests-preserved c =
     tests_more c.args.place c.args.signed.now.pairs.now c.args.signed.now.signs.now (pairs c.args.q.now) c.as_slice-pairs.result.now c.args.part.now.signs.items c.as_slice-signs.result.now
-    c.args.prepared.now.tests.items c.tests-test-items.result.now c.tests.list.items c.ask.new.list.items c.tests.test-index 0 c.of_number.result (c.as_slice-pairs.ensures.value ∙ c.pairs.ensures) c.as_slice-signs.ensures.value c.tests-test-items.ensures c.tests-test.true
-    c.of_number.ensures c.in_ok-ask.ensures c.tests.invariant
+    c.args.prepared.now.tests.items c.tests-test-items.result.now c.tests.list.items c.ask_number.new.list.items c.tests.test-index 0 (c.as_slice-pairs.ensures.value ∙ c.pairs.ensures) c.as_slice-signs.ensures.value c.tests-test-items.ensures c.tests-test.true
+    c.in_ok-ask_number.ensures c.tests.invariant
 
 pub asked-init : goal.asked-init
 asked-init c =
@@ -19,8 +19,8 @@ asked-init c =
 pub asked-preserved : goal.asked-preserved
 asked-preserved c =
     asked_more c.args.place c.args.signed.now.pairs.now c.args.signed.now.signs.now (λ v. keeps_tests c.args.place (alone v) (pairs c.args.q.now) c.args.part.now.signs.items c.args.prepared.now.tests.items)
-    c.args.prepared.now.asked.items c.asked-condition-items.result.now c.asked.list.items c.ask-in-asked.new.list.items c.asked.condition-index _ c.of_condition.result c.asked-condition-items.ensures c.asked-test.true
-    c.of_condition.ensures c.in_ok-ask-2.ensures c.asked.invariant
+    c.args.prepared.now.asked.items c.asked-condition-items.result.now c.asked.list.items c.ask.new.list.items c.asked.condition-index _ c.of_condition.result c.asked-condition-items.ensures c.asked-test.true
+    c.of_condition.ensures c.in_ok-ask.ensures c.asked.invariant
 
 pub returns : goal.returns
 returns c =

@@ -174,7 +174,7 @@ parts-preserved-in-Unasked g c =
           (λ f. sym (ap number_of (c.reach.ensures.none f)) ∙ ap number_of c.in-Unasked.is) low passed.there.within (omega (arith, r)) (omega (arith, w)) passed.left c.parts.invariant.done;
       same = c.parts.invariant.same;
       chain = passed.there;
-      told = tt;
+      told = subst (λ told. IfSome told (λ (cell : CellAt). StandsAt o.q.now o.parts.now o.pos o.row.now.items c.in-Unasked.next cell)) (sym c.take.ensures.after) tt;
     }
 
 pub parts-preserved : goal.parts-preserved

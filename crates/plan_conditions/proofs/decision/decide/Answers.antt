@@ -12,12 +12,15 @@ break_of-requires-clause-part c = subst (λ (z : Part). IsPart c.args.q.now z.si
 pub returns-in-Some : goal.returns-in-Some
 returns-in-Some c =
     let f : is_filter c.args.q.now ≡ false = cc (c.is_filter.ensures, c.if-is_filter.false) in
-    one_fails c.args.q.now c.args.parts.now c.loop-i.i _ c.index-parts-i.result c.in-Some.found f c.requires.parts c.loop-i-test.true (omega arith) c.loop-i.invariant (subst (λ (z : Part). IsFirstBreak c.args.q.now z.signs.items (Some c.in-Some.found)) c.index-parts-i.is c.in-Some.ensures)
+    one_fails c.args.q.now c.args.parts.now c.loop-i.i _ c.index-parts-i.result c.in-Some.found f c.requires.parts c.loop-i-test.true (omega arith) c.loop-i.invariant.none (subst (λ (z : Part). IsFirstBreak c.args.q.now z.signs.items (Some c.in-Some.found)) c.index-parts-i.is c.in-Some.ensures.found)
 
 pub loop-i-preserved : goal.loop-i-preserved
-loop-i-preserved c = none_more c.args.q.now c.args.parts.now c.loop-i.i c.index-parts-i.result c.loop-i-test.true c.loop-i.invariant (subst (λ (z : Part). IsFirstBreak c.args.q.now z.signs.items None) c.index-parts-i.is c.in-None.ensures)
+loop-i-preserved c = record {
+  none = none_more c.args.q.now c.args.parts.now c.loop-i.i c.index-parts-i.result c.loop-i-test.true c.loop-i.invariant.none (subst (λ (z : Part). IsFirstBreak c.args.q.now z.signs.items None) c.index-parts-i.is c.in-None.ensures.found);
+  begun = c.in-None.ensures.begun;
+}
 
 pub returns : goal.returns
 returns c =
     let f : is_filter c.args.q.now ≡ false = cc (c.is_filter.ensures, c.if-is_filter.false) in
-    none_fails c.args.q.now c.args.parts.now c.loop-i.i f c.requires.parts c.loop-i-test.false c.loop-i.invariant
+    none_fails c.args.q.now c.args.parts.now c.loop-i.i f c.requires.parts c.loop-i-test.false c.loop-i.invariant.none

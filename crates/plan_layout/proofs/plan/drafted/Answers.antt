@@ -31,6 +31,7 @@ loop-i-preserved c = record {
       (c.in-Ok-add_part.ensures.signs ∙ ap (λ (z : Part). signs_of c.loop-i.draft.parts.items ++ z.signs.items ∷ []) c.index-parts-i.is);
   fine = none_more c.args.q.now c.args.parts.now c.loop-i.i c.index-parts-i.result c.loop-i-test.true c.loop-i.invariant.fine
       (subst (λ (z : Part). IsFirstBreak c.args.q.now z.signs.items None) c.index-parts-i.is c.in_default-violation_of.ensures);
+  begun = c.refs-refs.ensures.begun;
 }
 
 pub returns : goal.returns

@@ -4,7 +4,7 @@ use Rattle.exec_part_index.proofs.SimpleBoxLaws.{outside, number_fits, in_line}
 use Rattle.exec_part_index.proofs.simple_box.OneDimBox.placement.Goals as goal
 
 pub offset_in-requires : goal.offset_in-requires
-offset_in-requires c = c.requires.axes.short 0 (axis_in c.args.self) (omega arith)
+offset_in-requires c = c.requires.axes.short 0 (axis_in c.args.self.range) (omega arith)
 
 pub overflow_add-result : goal.overflow_add-result
 overflow_add-result c =

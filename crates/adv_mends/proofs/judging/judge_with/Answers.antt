@@ -1,9 +1,0 @@
-use Rattle.std.proofs.Common.{Bool, subst}
-use Rattle.sem_query.specs.Query.{QueryValue}
-use Rattle.adv_mends.specs.Numbered.{IsJudgement, shares}
-use Rattle.adv_mends.proofs.judging.judge_with.Goals as goal
-
-pub returns-in-Ok : goal.returns-in-Ok
-returns-in-Ok c =
-    subst (λ (z : QueryValue). IsJudgement (shares c.args.mend.now c.args.shared) z c.in-Ok.judgement) c.in-Some.ensures
-    (subst (λ (b : Bool). IsJudgement b c.in-Some.other c.in-Ok.judgement) c.shares.ensures c.in-Ok.ensures)

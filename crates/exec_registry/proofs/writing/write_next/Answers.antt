@@ -1,4 +1,0 @@
-use Rattle.exec_registry.proofs.writing.write_next.Goals as goal
-
-pub returns-in-Err-clause-wrote : goal.returns-in-Err-clause-wrote
-returns-in-Err-clause-wrote g c = c.give_up_one.ensures c.args.name.now
