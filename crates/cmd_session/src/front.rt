@@ -46,6 +46,29 @@ fn odd_front(session: &Session, stream: u8, text: &[u8], start: usize, row: &mut
     row_front(session, stream, text, start, row)
 }
 
+// Counts the rows at the front of a text that begins with a row of an open stream, where such rows may be counted; else the same of that row. It
+// is not inlined, so that the loop over rows has no room for what was counted, which would be zeroed for each row.
+#[inline(never)]
+fn spared_front(
+    session: &mut Session,
+    stream: u8,
+    text: &[u8],
+    start: usize,
+    row: &mut Row,
+) -> Front
+    requires empty { row.old.items ≡ [] }
+    requires begins { BeginsStream session.old.streams text.now stream start }
+    requires opens { IsTrue (is_open (open_in session.old.lock) stream) }
+    requires ended { IsEnded text.now }
+    ensures { IsFront result text.now session.old row.new.items session.new }
+{
+    let rows = session.pass_rows(text);
+    if rows.count == 0 {
+        return odd_front(session, stream, text, start, row);
+    }
+    Front::Counted(rows)
+}
+
 /// Counts the rows at the front of a text, as many at most as may be taken, where the first one is of a stream of which each live query is known
 /// to refuse each row, no column has a domain, and the rows are written without blanks and plus signs; else puts the row that the first line is
 /// into an empty `row`, where it is a row of an open stream, each value in the domain of its column, written without blanks. The last byte of the
@@ -61,11 +84,7 @@ pub fn front_ahead(session: &mut Session, text: &[u8], row: &mut Row) -> Front
     };
     let (stream, start) = found;
     if session.spares(stream) {
-        let rows = session.pass_rows(text);
-        if rows.count == 0 {
-            return odd_front(session, stream, text, start, row);
-        }
-        return Front::Counted(rows);
+        return spared_front(session, stream, text, start, row);
     }
     row_front(session, stream, text, start, row)
 }
