@@ -19,7 +19,7 @@ use Rattle.sql_parser.specs.Limits.{column_in, columns_in}
 use Rattle.sql_parser.specs.Reading.{kind_at, text_of}
 use Rattle.sql_parser.specs.Syntax.{lexeme_as, lexeme_of, lexemes}
 use Rattle.sql_parser.proofs.Compact.{create_tokens}
-use Rattle.adv_diagnosis.specs.declared.compared.ColumnTokens.{ColumnTokens}
+use Rattle.adv_diagnosis.specs.declared.passing.ColumnTokens.{ColumnTokens}
 use Rattle.adv_diagnosis.specs.declared.marks.Anchor.TheVariants as anchors
 use Rattle.adv_diagnosis.specs.Compared.{column_with, column_of, and_column, columns_at, columns_compared}
 use Rattle.adv_diagnosis.specs.Marks.{is_point, is_where, behind_anchor}

@@ -14,6 +14,7 @@ use Rattle.adv_diagnosis.specs.declared.fault.Fault.TheVariants.{LineTooLong, Sy
 use Rattle.adv_diagnosis.specs.Asked.{IsAsked, IsTextAsked, fits, stated}
 use Rattle.adv_diagnosis.specs.Faults.{IsOfStatement, IsTrueOf, IsTrueOfText, IsDiagnosis, IsTextDiagnosis, IsStatementDiagnosis}
 use Rattle.adv_diagnosis.specs.FaultWords.{word_of}
+use Rattle.adv_diagnosis.specs.Locked.{IsRowDiagnosis}
 use Rattle.adv_diagnosis.specs.RowFaults.{IsOfRow}
 
 -- what is said of a statement is said of a text that is this statement
@@ -113,4 +114,13 @@ found_text streams live line text (Ok asked) short k t h = record { asked = of_k
 found_text streams live line text (Err fault) short k t h = record {
   asked = of_kind streams live kinds.StatementLine line text (Err (word_of fault)) short k (sym t) h.asked;
   facts = of_text streams live line fault (subst (λ x. IsTrueOfText streams live x fault) t h.facts);
+}
+
+-- a line that is read as a row
+pub found_row : (streams : List Shape) (live : List (List ℕ)) (line text : List ℕ) (result : Result Asks Fault) → length line ≤ 1024 → kind_of_line (stripped line) ≡ kinds.RowLine → text ≡ stripped line
+    → IsRowDiagnosis streams text result → IsDiagnosis streams live line result
+found_row streams live line text (Ok asked) short k t h = record { asked = of_kind streams live kinds.RowLine line text (Ok asked) short k (sym t) h.asked; facts = tt }
+found_row streams live line text (Err fault) short k t h = record {
+  asked = of_kind streams live kinds.RowLine line text (Err (word_of fault)) short k (sym t) h.asked;
+  facts = of_row streams live line fault (subst (λ x. IsOfRow streams x fault) t h.facts);
 }

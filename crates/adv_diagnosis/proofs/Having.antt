@@ -1,10 +1,7 @@
 -- Whether an element passes a test, by the place of the first that does.
-use Rattle.std.proofs.Common.{◌≡◌, ℕ, suc, ◌+◌, Bool, true, false, cond, not, ◌||◌, nat_lt, List, [], ◌∷◌, length, Some, None, is_some, refl, ap, ◌∙◌, arith}
+use Rattle.std.proofs.Common.{◌≡◌, ℕ, suc, ◌+◌, Bool, true, false, cond, not, ◌||◌, nat_lt, List, [], ◌∷◌, length, Some, None, is_some, refl, ◌∙◌, arith}
 use Rattle.std.specs.List.{list_any, position, position_or_len}
-use Rattle.std.specs.Str.{bytes_eq}
 use Rattle.std.proofs.lemmas.Bool.Decides.{nat_tests}
-use Rattle.sql_catalog.specs.declared.column.ColumnDef.{ColumnDef}
-use Rattle.sql_catalog.specs.Streams.{column_names}
 
 zero_first : (n : ℕ) → nat_lt 0 (suc n) ≡ true
 zero_first n = grind (arith, nat_tests)
@@ -26,8 +23,3 @@ if_some false i = refl
 
 pub has_place : {X : Type 0} (p : X → Bool) (xs : List X) → is_some (position p xs) ≡ list_any p xs
 has_place p xs = if_some (nat_lt (position_or_len p xs) (length xs)) (position_or_len p xs) ∙ place_any p xs
-
--- a name among those of columns
-pub any_column : (name : List ℕ) (columns : List ColumnDef) → list_any (λ c. bytes_eq name c.name) columns ≡ list_any (bytes_eq name) (column_names columns)
-any_column name [] = refl
-any_column name (c ∷ columns) = ap (λ b. bytes_eq name c.name || b) (any_column name columns)

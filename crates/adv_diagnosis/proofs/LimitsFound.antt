@@ -1,7 +1,8 @@
 -- How many a statement has of what a limit is on is what its tokens tell.
 use Rattle.std.proofs.Common.{◌≡◌, ℕ, ◌+◌, ◌-◌, ◌≤◌, ◌<◌, inl, inr, Bool, true, false, cond, not, ◌||◌, ◌&&◌, nat_lt, List, [], ◌∷◌, ◌++◌, length, Option, Some, None, Ok, refl, ap, sym, ◌∙◌, arith, subst, length-drop, drop}
 use Rattle.std.specs.Prelude.{slice_range, ℤ, pos, unwrap_or}
-use Rattle.std.specs.List.{flat_map, list_any, AllByRecursion}
+use Rattle.std.specs.List.{find, flat_map, list_any, AllByRecursion}
+use Rattle.std.specs.Option.{option_map}
 use Rattle.std.specs.Ordering.{int_eq}
 use Rattle.std.proofs.lemmas.Bool.Decides.{nat_tests}
 use Rattle.std.proofs.lemmas.List.{length-take-le}
@@ -18,7 +19,7 @@ use Rattle.sql_parser.specs.declared.parsing.What.TheVariants as limits
 use Rattle.sql_parser.specs.declared.tree.SelectAst.{SelectAst}
 use Rattle.sql_parser.specs.declared.tree.Statement.{Statement}
 use Rattle.sql_parser.specs.declared.tree.Statement.TheVariants.{CreateStream, CreateQuery, Explain, DropQuery, Checkpoint, ResumeRows, ResumeGiven, ResumeCell, ResumeTuple, Lock, Unlock}
-use Rattle.sql_parser.specs.DraftLimits.{is_word_kind}
+use Rattle.sql_parser.specs.DraftLimits.{is_word_kind, is_long_token}
 use Rattle.sql_parser.specs.Grammar.{Lexeme, word, key, FreeWords, to_tokens, no_words, tokens_with, written, IsSpelling, select_tokens, Spells}
 use Rattle.sql_parser.specs.Syntax.{lexeme_as, lexeme_of, lexemes, IsStatement}
 use Rattle.sql_parser.specs.Keeping.{IsCut}
@@ -113,10 +114,15 @@ long_as kinds.Semi w from to r names le e h = h
 cut_length : (line : List ℕ) (t : Token) → IsCut line t → length (slice_range line t.from t.to) ≡ t.to - t.from
 cut_length line t c = length-take-le (t.to - t.from) (drop t.from line) (omega (arith, c.inside, c.order, length-drop t.from line))
 
+long_here : (b : Bool) (t : Token) (o : Option Token) → option_map (λ (x : Token). x.to - x.from) (cond b (Some t) o) ≡ cond b (Some (t.to - t.from)) (option_map (λ (x : Token). x.to - x.from) o)
+long_here true t o = refl
+long_here false t o = refl
+
 long_words : (line : List ℕ) (ts : List Token) → AllByRecursion (IsCut line) ts → long_bytes ts ≡ long_length (flat_map word_in (lexemes line ts))
 long_words line [] c = refl
 long_words line (t ∷ ts) c =
-    long_as t.kind (slice_range line t.from t.to) t.from t.to (long_bytes ts) (flat_map word_in (lexemes line ts)) c.0.order (cut_length line t c.0) (long_words line ts c.1)
+    long_here (is_long_token t) t (find is_long_token ts)
+    ∙ long_as t.kind (slice_range line t.from t.to) t.from t.to (long_bytes ts) (flat_map word_in (lexemes line ts)) c.0.order (cut_length line t c.0) (long_words line ts c.1)
 
 not_long : (w : List ℕ) (names : List (List ℕ)) → length w ≤ 7 → long_length (w ∷ names) ≡ long_length names
 not_long w names e = let short : is_long w ≡ false = grind (arith, nat_tests) in ap (λ b. cond b (Some (length w)) (long_length names)) short

@@ -3,7 +3,7 @@ use Rattle.std.specs.Prelude.{ℕ, ◌&&◌, if◌then◌else◌, List, [], ◌�
 use Rattle.sql_lexer.specs.declared.token.Token.{Token}
 use Rattle.sql_parser.specs.declared.tree.ColumnAst.{ColumnAst}
 use Rattle.sql_parser.specs.DraftLimits.{is_word_kind}
-use Rattle.adv_diagnosis.specs.declared.compared.ColumnTokens.{ColumnTokens}
+use Rattle.adv_diagnosis.specs.declared.passing.ColumnTokens.{ColumnTokens}
 use Rattle.adv_diagnosis.specs.declared.marks.Anchor.TheVariants as anchors
 use Rattle.adv_diagnosis.specs.Marks.{is_point, behind_anchor}
 

@@ -1,6 +1,7 @@
 -- How many tokens are of a kind, and what their numbers tell of a statement.
 use Rattle.std.specs.Prelude.{ℕ, ◌+◌, ◌-◌, ◌*◌, ℤ, pos, Bool, true, false, if◌then◌else◌, List, [], ◌∷◌, filter, length, slice_range, unwrap_or, Option, Some, None}
-use Rattle.std.specs.List.{flat_map}
+use Rattle.std.specs.List.{find, flat_map}
+use Rattle.std.specs.Option.{option_map}
 use Rattle.std.specs.Ordering.{int_eq}
 use Rattle.sql_text.specs.Value.{value_of}
 use Rattle.sql_lexer.specs.declared.token.TokenKind.{TokenKind}
@@ -75,8 +76,7 @@ integers_at line ts = flat_map (integer_with line) ts
 
 -- how many bytes the first word has that is too long for a name
 abbrev pub long_bytes : List Token → Option ℕ
-long_bytes [] = None
-long_bytes (t ∷ ts) = if is_long_token t then Some (t.to - t.from) else long_bytes ts
+long_bytes ts = option_map (λ t. t.to - t.from) (find is_long_token ts)
 
 -- how many the tokens of a line tell of what a limit is on
 abbrev pub found_by : What → List ℕ → List Token → Option ℕ

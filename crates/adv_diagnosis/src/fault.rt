@@ -2,7 +2,7 @@
 ghost use Rattle.std.specs.Prelude.{◌≡◌};
 ghost use Rattle.adv_diagnosis.specs.FaultWords as words;
 
-use adv_hints::Candidate;
+use adv_hints::Continuations;
 use arrayvec::ArrayVec;
 use sem_query::Query;
 use sql_catalog::{Catalog, ColumnDef};
@@ -65,90 +65,54 @@ pub enum Fault {
     /// The line has more than 1,024 bytes.
     LineTooLong,
     /// A statement leaves the grammar at this byte, where these may stand.
-    Syntax {
-        at: u16,
-        next: ArrayVec<Candidate, 29>,
-    },
+    Syntax { at: u16, next: Continuations },
     /// A statement passes this limit first, with so many of what it is on: of names the bytes of the first that is too long, and none
     /// where the limit is on no number.
-    Limit {
-        what: What,
-        found: Option<u16>,
-    },
+    Limit { what: What, found: Option<u16> },
     /// A stream of this name is there.
-    DuplicateStream {
-        name: Name,
-    },
+    DuplicateStream { name: Name },
     /// Two columns of a stream have this name.
-    DuplicateColumn {
-        name: Name,
-    },
+    DuplicateColumn { name: Name },
     /// A live query has this name.
-    DuplicateQuery {
-        name: Name,
-    },
+    DuplicateQuery { name: Name },
     /// There are 16 streams.
     TooManyStreams,
     /// There are 64 live queries.
     TooManyQueries,
     /// FROM names this stream, which is not there.
-    NoStream {
-        name: Name,
-    },
+    NoStream { name: Name },
     /// The stream of this column is not in FROM.
-    NotInFrom {
-        column: ColumnAst,
-    },
+    NotInFrom { column: ColumnAst },
     /// The stream of this column has no column of its name.
-    NoColumn {
-        column: ColumnAst,
-    },
+    NoColumn { column: ColumnAst },
     /// FROM names this stream twice.
-    SelfJoin {
-        name: Name,
-    },
+    SelfJoin { name: Name },
     /// No live query has this name.
-    NoQuery {
-        name: Name,
-    },
+    NoQuery { name: Name },
     /// The lock of this line stands, and the line is none that it lets.
-    Locked {
-        line: u64,
-    },
+    Locked { line: u64 },
     /// A lock names this stream twice.
-    LockTwice {
-        name: Name,
-    },
+    LockTwice { name: Name },
     /// A lock names this stream, which is not there.
-    LockNoStream {
-        name: Name,
-    },
+    LockNoStream { name: Name },
     /// No lock stands that a line could open.
     NoLock,
     /// A row begins with a reserved word.
     RowKey,
     /// A row begins with a word of so many bytes, more than a name may have.
-    RowName {
-        bytes: u16,
-    },
+    RowName { bytes: u16 },
     /// A row begins with a word that is the name of no stream.
     RowStream,
     /// A row of this stream has so many fields, where so many are wanted.
-    Arity {
-        stream: u8,
-        wanted: u8,
-        found: u16,
-    },
+    Arity { stream: u8, wanted: u8, found: u16 },
     /// This field of a row is the first, from 0, that is no integer of 64 bits.
-    Value {
-        field: u16,
-    },
+    Value { field: u16 },
     /// The value of this column of a row of this stream is the first, from 0, outside its domain.
-    Domain {
-        stream: u8,
-        field: u8,
-    },
+    Domain { stream: u8, field: u8 },
 }
+
+/// What a line asks for, or what is wrong with it.
+pub type Diagnosis = Result<Asks, Fault>;
 
 /// Returns the word by which a session refuses a line with this fault.
 pub fn word_of(fault: &Fault) -> Refusal

@@ -6,20 +6,16 @@
 //! line that locked.
 #![tactic(auto)]
 
-mod compared;
 mod diagnosis;
 mod fault;
-mod fields;
-mod finding;
-mod locking;
 mod marks;
 mod names;
 mod passing;
 mod rows;
 mod statements;
 
-pub use diagnosis::diagnose;
-pub use fault::{Asks, Fault, Known, Lock, word_of};
-pub use fields::fields_text;
-pub use locking::diagnose_locked;
+pub use diagnosis::{diagnose, diagnose_locked};
+pub use fault::{Asks, Diagnosis, Fault, Known, Lock, word_of};
 pub use marks::place_of;
+pub use names::names_of_columns;
+pub use rows::fields_text;

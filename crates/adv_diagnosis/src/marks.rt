@@ -75,8 +75,8 @@ pub fn is_point(kind: TokenKind) -> bool
     matches!(kind, TokenKind::Point)
 }
 
-// Whether names are looked for behind a token.
-fn is_anchor(anchor: Anchor, kind: TokenKind) -> bool
+/// Returns whether names are looked for behind a token.
+pub fn is_anchor(anchor: Anchor, kind: TokenKind) -> bool
     ensures { result ≡ marks.is_anchor anchor kind }
 {
     match anchor {
@@ -142,8 +142,8 @@ fn column_named<'a>(line: &[u8], column: &ColumnAst, tokens: &'a [Token]) -> Opt
     }
 }
 
-/// Returns whether a token is a word that is too long for a name.
-pub fn is_long(token: &Token) -> bool
+// Whether a token is a word that is too long for a name.
+fn is_long(token: &Token) -> bool
     ensures { result ≡ is_long_token token.now }
 {
     match token.kind {
@@ -152,29 +152,22 @@ pub fn is_long(token: &Token) -> bool
     }
 }
 
-// The first word that is too long for a name.
-fn long_word(tokens: &[Token]) -> Option<&Token>
+/// Returns the first word that is too long for a name.
+pub fn long_word(tokens: &[Token]) -> Option<&Token>
     ensures { option_copied result ≡ find is_long_token tokens.now }
 {
     tokens.iter().find(|token| is_long(token))
 }
 
-// Whether an integer is one that a statement may not have, by whether it may have all of 64 bits.
-fn is_beyond(wide: bool, value: Option<i64>) -> bool
-    ensures { result ≡ marks.is_beyond wide value }
-{
-    match value {
-        Some(value) => !wide && (value < -FARTHEST || FARTHEST < value),
-        None => true,
-    }
-}
-
-// Whether a token is an integer that a statement may not have.
+// Whether a token is an integer that a statement may not have, by whether it may have all of 64 bits.
 fn is_beyond_at(line: &[u8], wide: bool, token: &Token) -> bool
     ensures { result ≡ marks.is_beyond_at line.now wide token.now }
 {
     match token.kind {
-        TokenKind::Integer => is_beyond(wide, read_i64(piece_of(line, token))),
+        TokenKind::Integer => match read_i64(piece_of(line, token)) {
+            Some(value) => !wide && (value < -FARTHEST || FARTHEST < value),
+            None => true,
+        },
         _ => false,
     }
 }
@@ -280,11 +273,13 @@ fn field_place(line: &[u8], field: u16) -> u16
     line.len().saturating_sub(behind.len()) as u16
 }
 
-// The place of a fault in a text of at most 1,024 bytes.
-fn short_place(text: &[u8], fault: &Fault) -> Option<u16>
-    requires { length text.now ≤ 1024 }
-    ensures { result ≡ marks.short_place text.now fault.now }
+/// Returns the place of a fault in its text, where there is one.
+pub fn place_of(text: &[u8], fault: &Fault) -> Option<u16>
+    ensures { result ≡ marks.place_of text.now fault.now }
 {
+    if MOST_BYTES < text.len() {
+        return None;
+    }
     match fault {
         Fault::Syntax { at, .. } => Some(*at),
         Fault::RowKey
@@ -296,16 +291,5 @@ fn short_place(text: &[u8], fault: &Fault) -> Option<u16>
         Fault::Value { field } => Some(field_place(text, *field)),
         Fault::Domain { field, .. } => Some(field_place(text, u16::from(*field))),
         _ => statement_place(text, fault),
-    }
-}
-
-/// Returns the place of a fault in its text, where there is one.
-pub fn place_of(text: &[u8], fault: &Fault) -> Option<u16>
-    ensures { result ≡ marks.place_of text.now fault.now }
-{
-    if MOST_BYTES < text.len() {
-        None
-    } else {
-        short_place(text, fault)
     }
 }

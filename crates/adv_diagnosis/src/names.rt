@@ -1,23 +1,59 @@
-//! Names of a query that stand for no stream and for no column.
+//! Names that are there already, those that stand twice, and those of a query that stand for no stream and for no column.
 ghost use Rattle.std.specs.Prelude.{◌≡◌, ◌≤◌, ◌<◌, ◌+◌, ◌++◌, length, option_copied};
-ghost use Rattle.std.specs.List.{find};
+ghost use Rattle.std.specs.List.{find, list_any};
+ghost use Rattle.std.specs.Str.{bytes_eq};
+ghost use Rattle.sql_catalog.specs.Streams.{column_names};
 ghost use Rattle.sql_parser.specs.Limits.{column_in, columns_in};
 ghost use Rattle.sql_parser.specs.Resolution as resolution;
 ghost use Rattle.adv_diagnosis.specs.Faults as faults;
-ghost use Rattle.adv_diagnosis.specs.Faults.{IsNameFault};
+ghost use Rattle.adv_diagnosis.specs.Faults.{first_repeated, IsNameFault};
 
 use crate::fault::Fault;
-use crate::finding::repeated_name;
 use arrayvec::ArrayVec;
-use sql_catalog::Catalog;
+use sql_catalog::{Catalog, ColumnDef};
 use sql_parser::{AtomAst, ColumnAst, OperandAst, SelectAst};
 use sql_text::Name;
 
-// Whether the name is that of no stream.
-fn is_no_stream(name: &Name, catalog: &Catalog) -> bool
-    ensures { result ≡ faults.is_no_stream catalog.now name.now }
+/// Returns whether a stream has the name.
+pub fn has_stream(name: &Name, catalog: &Catalog) -> bool
+    ensures { result ≡ list_any (λ s. bytes_eq s.name name.now) catalog.now }
 {
-    catalog.find(name).is_none()
+    catalog.find(name).is_some()
+}
+
+// Whether the name is among these.
+fn is_among(name: &Name, names: &[Name]) -> bool
+    ensures { result ≡ list_any (bytes_eq name.now) names.now }
+{
+    names.iter().any(|other| *name == *other)
+}
+
+/// Returns the first name that stands among those behind it.
+pub fn repeated_name(names: &[Name]) -> Option<Name>
+    ensures { result ≡ first_repeated names.now }
+{
+    match names {
+        [] => None,
+        [first, others @ ..] => {
+            if is_among(first, others) {
+                Some(*first)
+            } else {
+                repeated_name(others)
+            }
+        }
+    }
+}
+
+/// Returns the names of at most 8 columns, in order.
+pub fn names_of_columns(columns: &[ColumnDef]) -> ArrayVec<Name, 8>
+    requires { length columns.now ≤ 8 }
+    ensures { result.items ≡ column_names columns.now }
+{
+    let mut names = ArrayVec::new();
+    for column in columns {
+        names.push(column.name);
+    }
+    names
 }
 
 // The place of FROM at which the stream of a column stands.
@@ -25,13 +61,6 @@ fn place_in(from: &[Name], column: &ColumnAst) -> Option<usize>
     ensures { result ≡ resolution.place_in from.now column.now }
 {
     from.iter().position(|name| *name == column.stream)
-}
-
-// Whether the stream of a column stands nowhere in FROM.
-fn is_not_from(from: &[Name], column: &ColumnAst) -> bool
-    ensures { result ≡ faults.is_not_from from.now column.now }
-{
-    place_in(from, column).is_none()
 }
 
 // The place of a column in its stream, where both are there.
@@ -42,32 +71,29 @@ fn place_under(column: &ColumnAst, catalog: &Catalog) -> Option<u8>
     catalog.column(stream, &column.column)
 }
 
-// Whether a column is none of its stream.
-fn is_no_column(column: &ColumnAst, catalog: &Catalog) -> bool
-    ensures { result ≡ faults.is_no_column catalog.now column.now }
-{
-    place_under(column, catalog).is_none()
-}
-
 /// Returns the first name that is that of no stream.
 pub fn unknown_stream<'a>(names: &'a [Name], catalog: &Catalog) -> Option<&'a Name>
     ensures { option_copied result ≡ find (faults.is_no_stream catalog.now) names.now }
 {
-    names.iter().find(|name| is_no_stream(name, catalog))
+    names.iter().find(|name| catalog.find(name).is_none())
 }
 
 // The first column whose stream is not in FROM.
 fn column_outside<'a>(columns: &'a [ColumnAst], from: &[Name]) -> Option<&'a ColumnAst>
     ensures { option_copied result ≡ find (faults.is_not_from from.now) columns.now }
 {
-    columns.iter().find(|column| is_not_from(from, column))
+    columns
+        .iter()
+        .find(|column| place_in(from, column).is_none())
 }
 
 // The first column that is none of its stream.
 fn unknown_column<'a>(columns: &'a [ColumnAst], catalog: &Catalog) -> Option<&'a ColumnAst>
     ensures { option_copied result ≡ find (faults.is_no_column catalog.now) columns.now }
 {
-    columns.iter().find(|column| is_no_column(column, catalog))
+    columns
+        .iter()
+        .find(|column| place_under(column, catalog).is_none())
 }
 
 // Adds the column that a side of an atom is.

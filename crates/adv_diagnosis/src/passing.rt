@@ -5,15 +5,15 @@
 ghost use Rattle.std.specs.Prelude.{◌≡◌, ◌≤◌, ◌+◌, ◌++◌, Some, length};
 ghost use Rattle.std.specs.Ordering.{int_eq};
 ghost use Rattle.std.specs.List.{list_any};
-ghost use Rattle.sql_parser.specs.Limits.{limit_of, number_of_different};
+ghost use Rattle.sql_parser.specs.Limits.{limit_of, same_column, number_of_different};
 ghost use Rattle.sql_parser.specs.declared.tree.Statement.{Statement};
 ghost use Rattle.sql_parser.specs.Syntax.{IsStatement};
+ghost use Rattle.adv_diagnosis.specs.Compared as compared;
 ghost use Rattle.adv_diagnosis.specs.Counted as counts;
-ghost use Rattle.adv_diagnosis.specs.Counted.{count_of, selected_number, from_number, integer_with, integers_at, long_bytes, found_by};
+ghost use Rattle.adv_diagnosis.specs.Counted.{count_of, selected_number, from_number, integer_with, integers_at, found_by};
 ghost use Rattle.adv_diagnosis.specs.Passed.{found_in};
 
-use crate::compared::different_columns;
-use crate::marks::{is_long, is_point, piece_of};
+use crate::marks::{Anchor, behind_anchor, is_anchor, is_point, long_word, piece_of};
 use arrayvec::ArrayVec;
 use sql_lexer::{Token, TokenKind, lex};
 use sql_parser::What;
@@ -133,28 +133,82 @@ fn different(values: &[i64]) -> u16
     count
 }
 
-// How many different integers stand among tokens.
-fn different_values(line: &[u8], tokens: &[Token]) -> u16
-    requires { length tokens.now ≤ 1024 }
-    ensures { result ≡ number_of_different int_eq (integers_at line.now tokens.now) }
+// How many bytes the first word has that is too long for a name.
+fn long_bytes(tokens: &[Token]) -> Option<u16>
+    ensures { result ≡ counts.long_bytes tokens.now }
 {
-    let values = values_at(line, tokens);
-    different(values.as_slice())
+    let word = long_word(tokens)?;
+    Some(word.to.saturating_sub(word.from))
 }
 
-// How many bytes the first word has that is too long for a name.
-fn long_word(tokens: &[Token]) -> Option<u16>
-    ensures { result ≡ long_bytes tokens.now }
+/// The tokens of the two names of a column.
+#[derive(Clone, Copy)]
+pub struct ColumnTokens {
+    pub stream: Token,
+    pub column: Token,
+}
+
+// The column that begins with a token: a name, and behind it a point and a name.
+fn column_with(first: &Token, others: &[Token]) -> Option<ColumnTokens>
+    ensures { result ≡ compared.column_with first.now others.now }
 {
-    match tokens {
-        [] => None,
-        [first, others @ ..] => {
-            if is_long(first) {
-                Some(first.to.saturating_sub(first.from))
+    match others {
+        [point, last, ..] => {
+            if is_anchor(Anchor::Word, first.kind)
+                && is_point(point.kind)
+                && is_anchor(Anchor::Word, last.kind)
+            {
+                Some(ColumnTokens {
+                    stream: *first,
+                    column: *last,
+                })
             } else {
-                long_word(others)
+                None
             }
         }
+        _ => None,
+    }
+}
+
+// Whether two columns have the same names.
+fn is_same(line: &[u8], a: &ColumnTokens, b: &ColumnTokens) -> bool
+    ensures { result ≡ same_column (compared.column_of line.now a.now) (compared.column_of line.now b.now) }
+{
+    *piece_of(line, &a.stream) == *piece_of(line, &b.stream)
+        && *piece_of(line, &a.column) == *piece_of(line, &b.column)
+}
+
+// Whether a column stands among tokens.
+fn stands_among(line: &[u8], column: &ColumnTokens, tokens: &[Token]) -> bool
+    ensures { result ≡ list_any (same_column (compared.column_of line.now column.now)) (compared.columns_at line.now tokens.now) }
+{
+    match tokens {
+        [] => false,
+        [first, others @ ..] => match column_with(first, others) {
+            Some(other) => is_same(line, column, &other) || stands_among(line, column, others),
+            None => stands_among(line, column, others),
+        },
+    }
+}
+
+// How many different columns stand among tokens: each counts where it stands last.
+fn count_different(line: &[u8], tokens: &[Token]) -> u16
+    requires { length tokens.now ≤ 1024 }
+    ensures number { result ≡ number_of_different same_column (compared.columns_at line.now tokens.now) }
+    ensures few { result ≤ length tokens.now }
+{
+    match tokens {
+        [] => 0,
+        [first, others @ ..] => match column_with(first, others) {
+            Some(column) => {
+                if stands_among(line, &column, others) {
+                    count_different(line, others)
+                } else {
+                    count_different(line, others) + 1
+                }
+            }
+            None => count_different(line, others),
+        },
     }
 }
 
@@ -164,14 +218,14 @@ fn number_found(what: What, line: &[u8], tokens: &[Token]) -> Option<u16>
     ensures { result ≡ found_by what line.now tokens.now }
 {
     match what {
-        What::Name => long_word(tokens),
+        What::Name => long_bytes(tokens),
         What::Columns => Some(count(Counted::Comma, tokens) + 1),
         What::Select => Some(selected(tokens)),
         What::From => Some(from_streams(tokens)),
         What::Atoms => Some(count(Counted::Comparison, tokens)),
         What::Soft => Some(count(Counted::SoftSign, tokens)),
-        What::Attrs => Some(different_columns(line, tokens)),
-        What::Consts => Some(different_values(line, tokens)),
+        What::Attrs => Some(count_different(line, behind_anchor(Anchor::Where, tokens))),
+        What::Consts => Some(different(values_at(line, tokens).as_slice())),
         What::Tuple => Some(count(Counted::Integer, tokens)),
         What::Streams => Some(count(Counted::Comma, tokens) + 1),
         What::Value | What::Domain => None,

@@ -8,9 +8,8 @@ ghost use Rattle.sql_parser.specs.declared.tree.Statement.TheVariants.{CreateStr
 ghost use Rattle.adv_diagnosis.specs.Asked as asking;
 ghost use Rattle.adv_diagnosis.specs.Faults.{IsStatementDiagnosis, IsReady, live_found};
 
-use crate::fault::{Asks, Fault, Known};
-use crate::finding::{has_stream, repeated_column, repeated_name};
-use crate::names::{query_fault, unknown_stream};
+use crate::fault::{Asks, Diagnosis, Fault, Known};
+use crate::names::{has_stream, names_of_columns, query_fault, repeated_name, unknown_stream};
 use arrayvec::ArrayVec;
 use sql_catalog::ColumnDef;
 use sql_parser::{SelectAst, Statement, resolve};
@@ -27,11 +26,7 @@ fn is_live(name: &Name, live: &[Name]) -> bool
 }
 
 // What is found for CREATE STREAM.
-fn diagnose_stream(
-    name: Name,
-    columns: ArrayVec<ColumnDef, 8>,
-    known: &Known<'_>,
-) -> Result<Asks, Fault>
+fn diagnose_stream(name: Name, columns: ArrayVec<ColumnDef, 8>, known: &Known<'_>) -> Diagnosis
     requires some { 0 < length columns.items }
     requires domains { All (λ c. HasEnds c.domain) columns.items }
     ensures found { IsStatementDiagnosis known.now.catalog.now known.now.live.now (CreateStream name columns) result }
@@ -40,7 +35,8 @@ fn diagnose_stream(
     if has_stream(&name, known.catalog) {
         return Err(Fault::DuplicateStream { name });
     }
-    if let Some(name) = repeated_column(columns.as_slice()) {
+    let names = names_of_columns(columns.as_slice());
+    if let Some(name) = repeated_name(names.as_slice()) {
         return Err(Fault::DuplicateColumn { name });
     }
     if known.catalog.is_full() {
@@ -50,12 +46,7 @@ fn diagnose_stream(
 }
 
 // What is found for CREATE QUERY.
-fn diagnose_query(
-    name: Name,
-    select: SelectAst,
-    shared: bool,
-    known: &Known<'_>,
-) -> Result<Asks, Fault>
+fn diagnose_query(name: Name, select: SelectAst, shared: bool, known: &Known<'_>) -> Diagnosis
     requires { IsTaken select }
     ensures found { IsStatementDiagnosis known.now.catalog.now known.now.live.now (CreateQuery name select shared) result }
     ensures ready { IfOk result (IsReady known.now.catalog.now) }
@@ -80,7 +71,7 @@ fn diagnose_query(
 }
 
 // What is found for a statement that asks for a live query by its name.
-fn diagnose_live(name: Name, asks: Asks, live: &[Name]) -> Result<Asks, Fault>
+fn diagnose_live(name: Name, asks: Asks, live: &[Name]) -> Diagnosis
     ensures { result ≡ live_found live.now name asks }
 {
     if is_live(&name, live) {
@@ -91,11 +82,7 @@ fn diagnose_live(name: Name, asks: Asks, live: &[Name]) -> Result<Asks, Fault>
 }
 
 // What is found for LOCK.
-fn diagnose_lock(
-    key: Option<i64>,
-    streams: ArrayVec<Name, 16>,
-    known: &Known<'_>,
-) -> Result<Asks, Fault>
+fn diagnose_lock(key: Option<i64>, streams: ArrayVec<Name, 16>, known: &Known<'_>) -> Diagnosis
     ensures found { IsStatementDiagnosis known.now.catalog.now known.now.live.now (Lock key streams) result }
     ensures ready { IfOk result (IsReady known.now.catalog.now) }
 {
@@ -109,7 +96,7 @@ fn diagnose_lock(
 }
 
 /// Returns what a statement within the limits asks for over the streams and the live queries, or what is wrong with it.
-pub fn diagnose_statement(statement: Statement, known: &Known<'_>) -> Result<Asks, Fault>
+pub fn diagnose_statement(statement: Statement, known: &Known<'_>) -> Diagnosis
     requires whole { IsWhole statement }
     requires within { limit_of statement ≡ None }
     ensures found { IsStatementDiagnosis known.now.catalog.now known.now.live.now statement result }

@@ -3,8 +3,8 @@ use Rattle.std.specs.Prelude.{Bool, true, false, List}
 use Rattle.std.specs.List.{list_any}
 use Rattle.adv_hints.specs.declared.candidates.Candidate.{Candidate}
 use Rattle.adv_hints.specs.declared.candidates.Candidate.TheVariants as candidates
-use Rattle.adv_hints.specs.declared.groups.Group.{Group}
-use Rattle.adv_hints.specs.declared.groups.Group.TheVariants as groups
+use Rattle.adv_hints.specs.declared.candidates.Group.{Group}
+use Rattle.adv_hints.specs.declared.candidates.Group.TheVariants as groups
 
 -- whether a name is tried
 abbrev pub is_name : Candidate → Bool

@@ -1,5 +1,6 @@
 -- What a statement most likely meant where it leaves the grammar, and what stands there.
 use Rattle.std.specs.Prelude.{ℕ, ◌-◌, Bool, true, false, not, ◌&&◌, ◌||◌, ◌==◌, List, [], ◌∷◌, length, drop, if◌then◌else◌, is_some, codes, Option, Some, None}
+use Rattle.std.specs.Bool.{then_some}
 use Rattle.std.specs.Option.{option_or}
 use Rattle.std.specs.Str.{str_eq_ignore_ascii_case}
 use Rattle.sql_text.specs.Blank.{trimmed}
@@ -7,7 +8,7 @@ use Rattle.sql_text.specs.Word.{is_letter, word_of}
 use Rattle.sql_text.specs.Key.{key_of}
 use Rattle.sql_catalog.specs.Streams.{Shape, stream_number}
 use Rattle.adv_hints.specs.declared.candidates.Candidate.{Candidate}
-use Rattle.adv_hints.specs.declared.groups.Group.TheVariants as groups
+use Rattle.adv_hints.specs.declared.candidates.Group.TheVariants as groups
 use Rattle.adv_hints.specs.Groups.{wants}
 use Rattle.adv_hints.specs.declared.hints.Hint.{Hint}
 use Rattle.adv_hints.specs.declared.hints.Hint.TheVariants.{ByteOrderMark, Quoted, Unequal, Star, AtMost, AtLeast, Equal, Decimal, Or, BareColumn, ReservedName, BareRow, Comment, Interval, Arithmetic, Hyphen, CommaAtEnd, Function, Parenthesis, Negation, Between, Pattern, Null, Order, Join, Clause, Choice, BareQuery, Alias, Typed, Chained, Streamless, Exponent, DropStream, ExplainQuery, Replace, Show, Continued}
@@ -61,7 +62,7 @@ star_hint before next = if before == 40 then Function else (if wants groups.Colu
 abbrev pub opening_hint : List Candidate → Option Hint
 opening_hint next =
     if wants groups.Column next then Some Function else
-    (if wants groups.Operand next then (if wants groups.Name next then Some Parenthesis else Some Interval) else None)
+    (if not (wants groups.Operand next) then None else (if wants groups.Name next then Some Parenthesis else Some Interval))
 
 -- what is meant by a sign that a name or an integer may have around it
 abbrev pub mark_hint : ℕ → ℕ → ℕ → List Candidate → Option Hint
@@ -77,8 +78,8 @@ mark_hint before first second next =
 abbrev pub sign_hint : ℕ → ℕ → ℕ → List Candidate → Option Hint
 sign_hint before first second next =
     if (first == 239) && (second == 187) then Some ByteOrderMark else
-    (if is_quote first then Some Quoted else
     (if first == 33 then Some Unequal else
+    (if is_quote first then Some Quoted else
     (if begins_comment first second then Some Comment else
     (if wants groups.Interval next then Some Interval else
     (if is_arithmetic before first next then Some Arithmetic else
@@ -116,12 +117,11 @@ reserved_hint w before next =
     if is_word w (codes "IN") && wants groups.Comparison next then Some Choice else
     (if is_word w (codes "SELECT") && wants groups.Create next then Some BareQuery else
     (if is_word w (codes "AS") && wants groups.Comma next then Some Alias else
-    (if (before == 44) && ends_list w then Some CommaAtEnd else
-    (if wants groups.Name next then Some ReservedName else None))))
+    (if (before == 44) && ends_list w then Some CommaAtEnd else then_some (wants groups.Name next) ReservedName)))
 
 -- what is meant by a word that is not reserved, and what may stand there
 abbrev pub other_hint : List Candidate → Option Hint
-other_hint next = if wants groups.Domain next then Some Typed else (if wants groups.Where next then Some Alias else None)
+other_hint next = if wants groups.Domain next then Some Typed else then_some (wants groups.Where next) Alias
 
 -- what is meant by a word that stands there, and what may stand there; nothing where no word does
 abbrev pub placed_hint : List ℕ → ℕ → List Candidate → Option Hint
@@ -135,33 +135,27 @@ ends_with_not text = is_word (drop (length text - 4) text) (codes " NOT")
 abbrev pub is_negated : List ℕ → List Candidate → Bool
 is_negated front next = wants groups.Column next && ends_with_not (trimmed front)
 
--- what is meant by OR behind a comparison, and by NOT behind a side of one
+-- what is meant by OR behind a comparison, by NOT behind a side of one, and by any word where the stream of a column is missed
 unfoldable pub logical_hint : List ℕ → List Candidate → Option Hint
 logical_hint word next =
-    if is_word word (codes "OR") && wants groups.BehindOperand next then Some Or else (if is_word word (codes "NOT") && wants groups.Comparison next then Some Negation else None)
-
--- what is meant by the word at the place, the byte before it, and what may stand there
-abbrev pub word_hint : List ℕ → ℕ → List Candidate → Option Hint
-word_hint word before next =
-    option_or (logical_hint word next)
-    (if wants groups.Column next then Some BareColumn else
-    (option_or (spelled_hint word) (placed_hint word before next)))
+    if is_word word (codes "OR") && wants groups.BehindOperand next then Some Or else
+    (if is_word word (codes "NOT") && wants groups.Comparison next then Some Negation else then_some (wants groups.Column next) BareColumn)
 
 -- whether a word is the name of a stream, or INSERT
 unfoldable pub begins_row : List ℕ → List Shape → Bool
-begins_row word streams = if is_word word (codes "INSERT") then true else is_some (stream_number streams word)
+begins_row word streams = is_word word (codes "INSERT") || is_some (stream_number streams word)
 
 -- whether a row begins with its integers
 abbrev pub begins_integers : ℕ → ℕ → Bool
 begins_integers first second = first == 44 || begins_integer first second
 
 -- what is meant where a line begins so, by its first two bytes and its word
-abbrev pub begun_hint : ℕ → ℕ → List ℕ → List Shape → Option Hint
-begun_hint first second word streams = if begins_row word streams then Some BareRow else (if begins_integers first second then Some Streamless else None)
+abbrev pub row_begun : ℕ → ℕ → List ℕ → List Shape → Option Hint
+row_begun first second word streams = if begins_row word streams then Some BareRow else (if begins_integers first second then Some Streamless else None)
 
 -- what is meant where a line begins as a row does
 abbrev pub row_hint : List ℕ → List ℕ → List Shape → Option Hint
-row_hint front rest streams = if is_empty front then begun_hint (byte_at rest 0) (byte_at rest 1) (word_of rest) streams else None
+row_hint front rest streams = if is_empty front then row_begun (byte_at rest 0) (byte_at rest 1) (word_of rest) streams else None
 
 -- whether an integer has an exponent: a digit stands right before the place, and an E and a digit there
 abbrev pub is_exponent : ℕ → ℕ → ℕ → Bool
@@ -171,30 +165,24 @@ is_exponent before first second = is_digit before && ((first == 101 || first == 
 unfoldable pub goes_on_with : List ℕ → Bool
 goes_on_with w = is_word w (codes "FROM") || is_word w (codes "WHERE") || is_word w (codes "AND")
 
--- what is meant by the first word of a line
-unfoldable pub first_hint : List ℕ → Option Hint
-first_hint w = if is_word w (codes "SHOW") then Some Show else (if goes_on_with w then Some Continued else None)
+-- what is meant by the first word of a line, or by the second behind the first
+unfoldable pub begun_hint : List ℕ → List ℕ → Option Hint
+begun_hint front w =
+    if is_empty front && is_word w (codes "SHOW") then Some Show else
+    (if is_empty front && goes_on_with w then Some Continued else
+    (if is_word front (codes "DROP") && is_word w (codes "STREAM") then Some DropStream else
+    (if is_word front (codes "EXPLAIN") && is_word w (codes "SELECT") then Some ExplainQuery else
+    (if is_word front (codes "CREATE") && is_word w (codes "OR") then Some Replace else None))))
 
--- what is meant by the second word of a line, behind the first
-unfoldable pub second_hint : List ℕ → List ℕ → Option Hint
-second_hint first w =
-    if is_word first (codes "DROP") && is_word w (codes "STREAM") then Some DropStream else
-    (if is_word first (codes "EXPLAIN") && is_word w (codes "SELECT") then Some ExplainQuery else
-    (if is_word first (codes "CREATE") && is_word w (codes "OR") then Some Replace else None))
-
--- what is meant by a word, where nothing or one word stands before it in the line
-abbrev pub begun_by : List ℕ → List ℕ → Option Hint
-begun_by front w = if is_empty front then first_hint w else second_hint front w
-
--- what is meant by words: the first two of a line, or else one by itself
-abbrev pub words_hint : List ℕ → List ℕ → List Candidate → Option Hint
-words_hint front w next = option_or (begun_by front w) (word_hint w (last_byte front) next)
-
--- what is meant: by signs, by the streams, and by words
+-- what is meant: by signs, by the streams, by the first two words of a line, and by the word there and what may stand there
 abbrev pub placed_by : List ℕ → List ℕ → List Candidate → List Shape → Option Hint
 placed_by front rest next streams =
-    option_or (sign_hint (last_byte (trimmed front)) (byte_at rest 0) (byte_at rest 1) next)
-    (option_or (row_hint front rest streams) (words_hint (trimmed front) (word_of rest) next))
+    option_or (option_or (option_or (option_or (option_or (sign_hint (last_byte (trimmed front)) (byte_at rest 0) (byte_at rest 1) next)
+    (row_hint front rest streams))
+    (begun_hint (trimmed front) (word_of rest)))
+    (logical_hint (word_of rest) next))
+    (spelled_hint (word_of rest)))
+    (placed_hint (word_of rest) (last_byte (trimmed front)) next)
 
 -- what is meant, by what stands before the place and from there on, and by what may stand there
 abbrev pub hint_of : List ℕ → List ℕ → List Candidate → List Shape → Option Hint

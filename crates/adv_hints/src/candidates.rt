@@ -1,11 +1,15 @@
 //! What may stand at a place of a statement.
 ghost use Rattle.std.specs.Prelude.{◌≡◌, ◌≤◌, length};
 ghost use Rattle.adv_hints.specs.Candidates as candidates;
+ghost use Rattle.adv_hints.specs.Groups as groups;
+
+use arrayvec::ArrayVec;
 
 /// What may stand at a place of a statement: a name, an integer, the column of a stream behind its point, the points and the second integer
 /// of a domain, a sign or a word.
-#[derive(Clone, Copy, Debug, PartialEq, Eq)]
+#[derive(Clone, Copy, Debug, Default, PartialEq, Eq)]
 pub enum Candidate {
+    #[default]
     Name,
     Integer,
     Column,
@@ -15,7 +19,6 @@ pub enum Candidate {
     Open,
     Close,
     Comparison,
-    End,
     Create,
     Stream,
     Query,
@@ -35,14 +38,11 @@ pub enum Candidate {
     Lock,
     Unlock,
     To,
+    End,
 }
 
-/// The candidate that fills places of an array that no clause speaks of.
-impl Default for Candidate {
-    fn default() -> Candidate {
-        Candidate::Name
-    }
-}
+/// Candidates that may stand at one place, in the order in which they are told.
+pub type Continuations = ArrayVec<Candidate, 29>;
 
 /// All candidates, in the order in which they are told.
 pub const ALL: [Candidate; 29] = [
@@ -135,4 +135,48 @@ pub fn told_as(candidate: Candidate) -> &'static [u8]
         Candidate::To => b"TO",
         _ => sample_of(candidate),
     }
+}
+
+/// A group of candidates: a name, the column of a stream, the sign of a comparison, an integer as a side of one, what stands behind a side, a point of a
+/// domain, IN behind a column of a stream, WHERE, a comma, or CREATE.
+#[derive(Clone, Copy, Debug, PartialEq, Eq)]
+pub enum Group {
+    Name,
+    Column,
+    Comparison,
+    Operand,
+    BehindOperand,
+    Interval,
+    Domain,
+    Where,
+    Comma,
+    Create,
+}
+
+// Whether a candidate is of a group.
+fn is_in(group: Group, candidate: Candidate) -> bool
+    ensures { result ≡ groups.is_in group candidate }
+{
+    match group {
+        Group::Name => matches!(candidate, Candidate::Name),
+        Group::Column => matches!(candidate, Candidate::Column),
+        Group::Comparison => matches!(candidate, Candidate::Comparison),
+        Group::Operand => matches!(candidate, Candidate::Integer),
+        Group::BehindOperand => matches!(
+            candidate,
+            Candidate::Comparison | Candidate::And | Candidate::From
+        ),
+        Group::Interval => matches!(candidate, Candidate::Points | Candidate::SecondPoint),
+        Group::Domain => matches!(candidate, Candidate::In),
+        Group::Where => matches!(candidate, Candidate::Where),
+        Group::Comma => matches!(candidate, Candidate::Comma),
+        Group::Create => matches!(candidate, Candidate::Create),
+    }
+}
+
+/// Returns whether a candidate of a group may stand there.
+pub fn wants(group: Group, next: &[Candidate]) -> bool
+    ensures { result ≡ groups.wants group next.now }
+{
+    next.iter().any(|candidate| is_in(group, *candidate))
 }

@@ -7,7 +7,7 @@ ghost use Rattle.adv_hints.specs.Candidates as specs;
 ghost use Rattle.adv_hints.specs.Candidates.{GoesOnIf, MayStand, AreNext};
 ghost use Rattle.adv_hints.specs.declared.candidates.TheConstants.{ALL as all};
 
-use crate::candidates::{ALL, Candidate, sample_of};
+use crate::candidates::{ALL, Candidate, Continuations, sample_of};
 use arrayvec::ArrayVec;
 use sql_parser::{ParseError, parse};
 
@@ -19,22 +19,14 @@ pub fn front_of(text: &[u8], at: u16) -> &[u8]
     ensures front { result.now ≡ take at text.now }
     ensures short { length result.now ≤ length text.now }
 {
-    if usize::from(at) < text.len() {
-        text.split_at(usize::from(at)).0
-    } else {
-        text
-    }
+    text.split_at(usize::from(at).min(text.len())).0
 }
 
 /// Returns the bytes of a text from a place on, or none.
 pub fn rest_of(text: &[u8], at: u16) -> &[u8]
     ensures { result.now ≡ drop at text.now }
 {
-    if usize::from(at) < text.len() {
-        text.split_at(usize::from(at)).1
-    } else {
-        &[]
-    }
+    text.split_at(usize::from(at).min(text.len())).1
 }
 
 // Adds bytes to a text that has room for them.
@@ -96,7 +88,7 @@ fn put_where(stands: bool, next: &mut ArrayVec<Candidate, 29>, candidate: Candid
 }
 
 /// Returns the candidates that may stand behind the bytes of a text before a place, in their order.
-pub fn next_at(text: &[u8], at: u16) -> ArrayVec<Candidate, 29>
+pub fn next_at(text: &[u8], at: u16) -> Continuations
     requires { length text.now ≤ 1024 }
     ensures { AreNext (take at text.now) all result.items }
 {

@@ -1,13 +1,10 @@
 //! What a statement most likely meant where it leaves the grammar, by the bytes around that place and by what may stand there.
-ghost use Rattle.std.specs.Prelude.{◌≡◌, ◌||◌, ◌&&◌, ◌==◌};
-ghost use Rattle.adv_hints.specs.Groups as groups;
-ghost use Rattle.adv_hints.specs.declared.groups.Group.TheVariants as kinds;
+ghost use Rattle.std.specs.Prelude.{◌≡◌};
+ghost use Rattle.std.specs.List.{slice_index_or};
 ghost use Rattle.adv_hints.specs.Hints as hints;
 ghost use Rattle.adv_hints.specs.Bytes as bytes;
 
-use crate::bytes::{byte_at, last_byte};
-use crate::candidates::Candidate;
-use crate::groups::{Group, wants};
+use crate::candidates::{Candidate, Group, wants};
 use sql_catalog::Catalog;
 use sql_text::{is_letter, key_of, split_word, trim};
 
@@ -65,6 +62,20 @@ pub enum Standing {
     Strange,
 }
 
+// The byte at a place, 0 where there is none.
+fn byte_at(text: &[u8], place: usize) -> u8
+    ensures { result ≡ slice_index_or text.now place 0 }
+{
+    if place < text.len() { text[place] } else { 0 }
+}
+
+// The last byte, 0 where there is none.
+fn last_byte(text: &[u8]) -> u8
+    ensures { result ≡ bytes.last_byte text.now }
+{
+    text.last().copied().unwrap_or(0)
+}
+
 /// Returns whether a byte is a quotation mark.
 pub fn is_quote(byte: u8) -> bool
     ensures { result ≡ bytes.is_quote byte }
@@ -92,22 +103,16 @@ fn begins_comment(first: u8, second: u8) -> bool
 fn is_operator(byte: u8) -> bool
     ensures { result ≡ hints.is_operator byte }
 {
-    byte == b'+' || byte == b'-' || byte == b'*' || byte == b'/' || byte == b'%'
+    matches!(byte, b'+' | b'-' | b'*' | b'/' | b'%')
 }
 
-// Whether a name or an integer ends with a byte, and the sign behind it can be no hyphen.
-fn ends_operand(before: u8, first: u8) -> bool
-    ensures { result ≡ hints.ends_operand before first }
-{
-    first != b'-' && (is_letter(before) || is_digit(before))
-}
-
-// Whether arithmetic stands there. Where the statement goes wrong before it, no candidate tells.
+// Whether arithmetic stands there. Where the statement goes wrong before it, no candidate tells: then it stands behind a name or an integer, and is no
+// hyphen.
 fn is_arithmetic(before: u8, first: u8, next: &[Candidate]) -> bool
     ensures { result ≡ hints.is_arithmetic before first next.now }
 {
     if next.is_empty() {
-        is_operator(first) && ends_operand(before, first)
+        is_operator(first) && (first != b'-' && (is_letter(before) || is_digit(before)))
     } else {
         is_operator(first) && (wants(Group::BehindOperand, next) || wants(Group::Operand, next))
     }
@@ -123,56 +128,21 @@ fn is_chained(first: u8, next: &[Candidate]) -> bool
         && wants(Group::BehindOperand, next)
 }
 
-// What is meant by `*`, the byte before it, and what may stand there.
-fn star_hint(before: u8, next: &[Candidate]) -> Hint
-    ensures { result ≡ hints.star_hint before next.now }
-{
-    if before == b'(' {
-        Hint::Function
-    } else if wants(Group::Column, next) {
-        Hint::BareColumn
-    } else {
-        Hint::Star
-    }
-}
-
-// What is meant by an opening parenthesis.
-fn opening_hint(next: &[Candidate]) -> Option<Hint>
-    ensures { result ≡ hints.opening_hint next.now }
-{
-    if wants(Group::Column, next) {
-        Some(Hint::Function)
-    } else if wants(Group::Operand, next) {
-        if wants(Group::Name, next) {
-            Some(Hint::Parenthesis)
-        } else {
-            Some(Hint::Interval)
-        }
-    } else {
-        None
-    }
-}
-
-// What is meant by a sign that a name or an integer may have around it.
+// What is meant by a sign that a name or an integer may have around it, and the bytes around it.
 fn mark_hint(before: u8, first: u8, second: u8, next: &[Candidate]) -> Option<Hint>
     ensures { result ≡ hints.mark_hint before first second next.now }
 {
-    if first == b'*' {
-        return Some(star_hint(before, next));
-    }
-    if first == b'-' && !is_digit(second) {
-        return Some(Hint::Hyphen);
-    }
-    if first == b'.' && is_digit(before) && is_digit(second) {
-        return Some(Hint::Decimal);
-    }
-    if before == b',' && first == b')' {
-        return Some(Hint::CommaAtEnd);
-    }
-    if first == b'(' {
-        return opening_hint(next);
-    }
     match first {
+        b'*' if before == b'(' => Some(Hint::Function),
+        b'*' if wants(Group::Column, next) => Some(Hint::BareColumn),
+        b'*' => Some(Hint::Star),
+        b'-' if !is_digit(second) => Some(Hint::Hyphen),
+        b'.' if is_digit(before) && is_digit(second) => Some(Hint::Decimal),
+        b')' if before == b',' => Some(Hint::CommaAtEnd),
+        b'(' if wants(Group::Column, next) => Some(Hint::Function),
+        b'(' if !wants(Group::Operand, next) => None,
+        b'(' if wants(Group::Name, next) => Some(Hint::Parenthesis),
+        b'(' => Some(Hint::Interval),
         b'<' if before == b'=' => Some(Hint::AtMost),
         b'>' if before == b'=' => Some(Hint::AtLeast),
         b'=' if before == b'=' => Some(Hint::Equal),
@@ -184,28 +154,16 @@ fn mark_hint(before: u8, first: u8, second: u8, next: &[Candidate]) -> Option<Hi
 fn sign_hint(before: u8, first: u8, second: u8, next: &[Candidate]) -> Option<Hint>
     ensures { result ≡ hints.sign_hint before first second next.now }
 {
-    if first == 239 && second == 187 {
-        return Some(Hint::ByteOrderMark);
+    match first {
+        239 if second == 187 => Some(Hint::ByteOrderMark),
+        b'!' => Some(Hint::Unequal),
+        _ if is_quote(first) => Some(Hint::Quoted),
+        _ if begins_comment(first, second) => Some(Hint::Comment),
+        _ if wants(Group::Interval, next) => Some(Hint::Interval),
+        _ if is_arithmetic(before, first, next) => Some(Hint::Arithmetic),
+        _ if is_chained(first, next) => Some(Hint::Chained),
+        _ => mark_hint(before, first, second, next),
     }
-    if is_quote(first) {
-        return Some(Hint::Quoted);
-    }
-    if first == b'!' {
-        return Some(Hint::Unequal);
-    }
-    if begins_comment(first, second) {
-        return Some(Hint::Comment);
-    }
-    if wants(Group::Interval, next) {
-        return Some(Hint::Interval);
-    }
-    if is_arithmetic(before, first, next) {
-        return Some(Hint::Arithmetic);
-    }
-    if is_chained(first, next) {
-        return Some(Hint::Chained);
-    }
-    mark_hint(before, first, second, next)
 }
 
 // What is meant by a word alone.
@@ -214,33 +172,29 @@ fn spelled_hint(word: &[u8]) -> Option<Hint>
     ensures { result ≡ hints.spelled_hint word.now }
 {
     if word.eq_ignore_ascii_case(b"BETWEEN") {
-        return Some(Hint::Between);
-    }
-    if word.eq_ignore_ascii_case(b"LIKE") {
-        return Some(Hint::Pattern);
-    }
-    if word.eq_ignore_ascii_case(b"IS") {
-        return Some(Hint::Null);
-    }
-    if word.eq_ignore_ascii_case(b"SHARED") {
-        return Some(Hint::Order);
-    }
-    if word.eq_ignore_ascii_case(b"JOIN")
+        Some(Hint::Between)
+    } else if word.eq_ignore_ascii_case(b"LIKE") {
+        Some(Hint::Pattern)
+    } else if word.eq_ignore_ascii_case(b"IS") {
+        Some(Hint::Null)
+    } else if word.eq_ignore_ascii_case(b"SHARED") {
+        Some(Hint::Order)
+    } else if word.eq_ignore_ascii_case(b"JOIN")
         || word.eq_ignore_ascii_case(b"INNER")
         || word.eq_ignore_ascii_case(b"LEFT")
         || word.eq_ignore_ascii_case(b"ON")
     {
-        return Some(Hint::Join);
-    }
-    if word.eq_ignore_ascii_case(b"ORDER")
+        Some(Hint::Join)
+    } else if word.eq_ignore_ascii_case(b"ORDER")
         || word.eq_ignore_ascii_case(b"GROUP")
         || word.eq_ignore_ascii_case(b"HAVING")
         || word.eq_ignore_ascii_case(b"LIMIT")
         || word.eq_ignore_ascii_case(b"WINDOW")
     {
-        return Some(Hint::Clause);
+        Some(Hint::Clause)
+    } else {
+        None
     }
-    None
 }
 
 // What is meant by a reserved word, the byte before it, and what may stand there.
@@ -249,23 +203,17 @@ fn reserved_hint(word: &[u8], before: u8, next: &[Candidate]) -> Option<Hint>
     ensures { result ≡ hints.reserved_hint word.now before next.now }
 {
     if word.eq_ignore_ascii_case(b"IN") && wants(Group::Comparison, next) {
-        return Some(Hint::Choice);
-    }
-    if word.eq_ignore_ascii_case(b"SELECT") && wants(Group::Create, next) {
-        return Some(Hint::BareQuery);
-    }
-    if word.eq_ignore_ascii_case(b"AS") && wants(Group::Comma, next) {
-        return Some(Hint::Alias);
-    }
-    if before == b','
+        Some(Hint::Choice)
+    } else if word.eq_ignore_ascii_case(b"SELECT") && wants(Group::Create, next) {
+        Some(Hint::BareQuery)
+    } else if word.eq_ignore_ascii_case(b"AS") && wants(Group::Comma, next) {
+        Some(Hint::Alias)
+    } else if before == b','
         && (word.eq_ignore_ascii_case(b"FROM") || word.eq_ignore_ascii_case(b"WHERE"))
     {
-        return Some(Hint::CommaAtEnd);
-    }
-    if wants(Group::Name, next) {
-        Some(Hint::ReservedName)
+        Some(Hint::CommaAtEnd)
     } else {
-        None
+        wants(Group::Name, next).then_some(Hint::ReservedName)
     }
 }
 
@@ -279,10 +227,8 @@ fn placed_hint(word: &[u8], before: u8, next: &[Candidate]) -> Option<Hint>
         reserved_hint(word, before, next)
     } else if wants(Group::Domain, next) {
         Some(Hint::Typed)
-    } else if wants(Group::Where, next) {
-        Some(Hint::Alias)
     } else {
-        None
+        wants(Group::Where, next).then_some(Hint::Alias)
     }
 }
 
@@ -295,7 +241,7 @@ fn ends_with_not(text: &[u8]) -> bool
     end.eq_ignore_ascii_case(b" NOT")
 }
 
-// What is meant by OR or NOT where comparisons stand.
+// What is meant by OR or NOT where comparisons stand, and where the stream of a column is missed.
 #[tactic(auto, unfolding(crate::specs::Hints::logical_hint))]
 fn logical_hint(word: &[u8], next: &[Candidate]) -> Option<Hint>
     ensures { result ≡ hints.logical_hint word.now next.now }
@@ -305,24 +251,8 @@ fn logical_hint(word: &[u8], next: &[Candidate]) -> Option<Hint>
     } else if word.eq_ignore_ascii_case(b"NOT") && wants(Group::Comparison, next) {
         Some(Hint::Negation)
     } else {
-        None
+        wants(Group::Column, next).then_some(Hint::BareColumn)
     }
-}
-
-// What is meant by the word at the place, or none there, the byte before it, and what may stand there.
-fn word_hint(word: &[u8], before: u8, next: &[Candidate]) -> Option<Hint>
-    ensures { result ≡ hints.word_hint word.now before next.now }
-{
-    if let Some(hint) = logical_hint(word, next) {
-        return Some(hint);
-    }
-    if wants(Group::Column, next) {
-        return Some(Hint::BareColumn);
-    }
-    if let Some(hint) = spelled_hint(word) {
-        return Some(hint);
-    }
-    placed_hint(word, before, next)
 }
 
 // Whether a word is the name of a stream, or INSERT.
@@ -330,11 +260,7 @@ fn word_hint(word: &[u8], before: u8, next: &[Candidate]) -> Option<Hint>
 fn begins_row(word: &[u8], catalog: &Catalog) -> bool
     ensures { result ≡ hints.begins_row word.now catalog.now }
 {
-    if word.eq_ignore_ascii_case(b"INSERT") {
-        true
-    } else {
-        catalog.find_bytes(word).is_some()
-    }
+    word.eq_ignore_ascii_case(b"INSERT") || catalog.find_bytes(word).is_some()
 }
 
 // What is meant where a line begins as a row does.
@@ -360,69 +286,42 @@ fn is_exponent(before: u8, first: u8, second: u8) -> bool
     is_digit(before) && ((first == b'e' || first == b'E') && is_digit(second))
 }
 
-// What is meant by the first word of a line.
-#[tactic(auto, unfolding(crate::specs::Hints::first_hint, crate::specs::Hints::goes_on_with))]
-fn first_hint(word: &[u8]) -> Option<Hint>
-    ensures { result ≡ hints.first_hint word.now }
+// What is meant by the first word of a line, or by a word behind a front of one.
+#[tactic(auto, unfolding(crate::specs::Hints::begun_hint, crate::specs::Hints::goes_on_with))]
+fn begun_hint(front: &[u8], word: &[u8]) -> Option<Hint>
+    ensures { result ≡ hints.begun_hint front.now word.now }
 {
-    if word.eq_ignore_ascii_case(b"SHOW") {
-        return Some(Hint::Show);
-    }
-    if word.eq_ignore_ascii_case(b"FROM")
-        || word.eq_ignore_ascii_case(b"WHERE")
-        || word.eq_ignore_ascii_case(b"AND")
+    if front.is_empty() && word.eq_ignore_ascii_case(b"SHOW") {
+        Some(Hint::Show)
+    } else if front.is_empty()
+        && (word.eq_ignore_ascii_case(b"FROM")
+            || word.eq_ignore_ascii_case(b"WHERE")
+            || word.eq_ignore_ascii_case(b"AND"))
     {
         Some(Hint::Continued)
+    } else if front.eq_ignore_ascii_case(b"DROP") && word.eq_ignore_ascii_case(b"STREAM") {
+        Some(Hint::DropStream)
+    } else if front.eq_ignore_ascii_case(b"EXPLAIN") && word.eq_ignore_ascii_case(b"SELECT") {
+        Some(Hint::ExplainQuery)
+    } else if front.eq_ignore_ascii_case(b"CREATE") && word.eq_ignore_ascii_case(b"OR") {
+        Some(Hint::Replace)
     } else {
         None
     }
 }
 
-// What is meant by the second word of a line, behind the first.
-#[tactic(auto, unfolding(crate::specs::Hints::second_hint))]
-fn second_hint(first: &[u8], word: &[u8]) -> Option<Hint>
-    ensures { result ≡ hints.second_hint first.now word.now }
-{
-    if first.eq_ignore_ascii_case(b"DROP") && word.eq_ignore_ascii_case(b"STREAM") {
-        return Some(Hint::DropStream);
-    }
-    if first.eq_ignore_ascii_case(b"EXPLAIN") && word.eq_ignore_ascii_case(b"SELECT") {
-        return Some(Hint::ExplainQuery);
-    }
-    if first.eq_ignore_ascii_case(b"CREATE") && word.eq_ignore_ascii_case(b"OR") {
-        return Some(Hint::Replace);
-    }
-    None
-}
-
-// What is meant by words: the first two of a line, or else one by itself.
-fn words_hint(front: &[u8], word: &[u8], next: &[Candidate]) -> Option<Hint>
-    ensures { result ≡ hints.words_hint front.now word.now next.now }
-{
-    let begun = if front.is_empty() {
-        first_hint(word)
-    } else {
-        second_hint(front, word)
-    };
-    if let Some(hint) = begun {
-        return Some(hint);
-    }
-    word_hint(word, last_byte(front), next)
-}
-
-// What is meant, by signs, by the streams, and by words.
+// What is meant, by signs, by the streams, by the first two words of a line, and by one by itself.
 fn placed_by(front: &[u8], rest: &[u8], next: &[Candidate], catalog: &Catalog) -> Option<Hint>
     ensures { result ≡ hints.placed_by front.now rest.now next.now catalog.now }
 {
-    let word = split_word(rest).0;
-    let before = last_byte(trim(front));
-    if let Some(hint) = sign_hint(before, byte_at(rest, 0), byte_at(rest, 1), next) {
-        return Some(hint);
-    }
-    if let Some(hint) = row_hint(front, rest, catalog) {
-        return Some(hint);
-    }
-    words_hint(trim(front), word, next)
+    let (line, word) = (trim(front), split_word(rest).0);
+    let before = last_byte(line);
+    sign_hint(before, byte_at(rest, 0), byte_at(rest, 1), next)
+        .or(row_hint(front, rest, catalog))
+        .or(begun_hint(line, word))
+        .or(logical_hint(word, next))
+        .or(spelled_hint(word))
+        .or(placed_hint(word, before, next))
 }
 
 /// Returns what is meant, by what stands before the place and from there on, and by what may stand there.

@@ -4,12 +4,10 @@
 //! told by the bytes around the place, by the word there, and by the kinds of token that may stand there.
 #![tactic(auto)]
 
-mod bytes;
 mod candidates;
 mod following;
-mod groups;
 mod hints;
 
-pub use candidates::{Candidate, told_as};
+pub use candidates::{Candidate, Continuations, told_as};
 pub use following::{front_of, next_at, rest_of};
 pub use hints::{Hint, Standing, hint_of, is_quote, standing_of};

@@ -1,11 +1,11 @@
 //! The least number of ranges with which a query is accepted in each.
-ghost use Rattle.std.specs.Prelude.{◌≡◌, ◌↔◌, ◌<◌, ◌≤◌, length, IsTrue, IfOk};
+ghost use Rattle.std.specs.Prelude.{◌≡◌, ◌↔◌, ◌≤◌, length, IsTrue, IfOk};
 ghost use Rattle.adv_mends.specs.Mended.{AreEnds};
 ghost use Rattle.adv_key_ranges.specs.Accepted.{IsAccepted};
-ghost use Rattle.adv_key_ranges.specs.Cutting.{range_at, most_ranges};
+ghost use Rattle.adv_key_ranges.specs.Cutting.{most_ranges};
 ghost use Rattle.adv_key_ranges.specs.Keys.{AreRead};
 ghost use Rattle.adv_key_ranges.specs.Narrowed.{narrowed};
-ghost use Rattle.adv_key_ranges.specs.Least.{IsAcceptedAt, AreAllAccepted, IsLeastFound};
+ghost use Rattle.adv_key_ranges.specs.Least.{AreAllAccepted, IsLeastFound};
 
 use crate::accepting::is_accepted;
 use crate::cutting::{most_ranges, range_at};
@@ -23,24 +23,20 @@ pub enum Least {
     NoneUpTo(u64),
 }
 
-// Whether the query is accepted with some columns in one of so many ranges, by its number from 0.
-fn is_accepted_at(
+// Whether the query is accepted with some columns in a range.
+fn is_accepted_in(
     alloc: Global,
     query: &Query,
     shared: bool,
     columns: &[Attr],
-    ends: Ends,
-    ranges: u64,
-    number: u64,
+    range: Ends,
 ) -> Result<bool, AllocError>
     requires few { length columns.now ≤ 4 }
     requires columns { AreRead query.now columns.now }
-    requires ends { AreEnds ends }
-    requires ranges { ranges ≤ most_ranges ends }
-    requires number { number < ranges }
-    ensures { IfOk result (λ is. IsTrue is ↔ IsAcceptedAt shared query.now columns.now ends ranges number) }
+    requires range { AreEnds range }
+    ensures { IfOk result (λ is. IsTrue is ↔ IsAccepted shared (narrowed columns.now range query.now)) }
 {
-    match narrowed(query, columns, range_at(ends, ranges, number)) {
+    match narrowed(query, columns, range) {
         Some(other) => is_accepted(alloc, &other, shared),
         None => Ok(false),
     }
@@ -62,7 +58,8 @@ fn are_all_accepted(
     ensures { IfOk result (λ are. IsTrue are ↔ AreAllAccepted shared query.now columns.now ends ranges) }
 {
     for number in 0..ranges {
-        if !is_accepted_at(alloc, query, shared, columns, ends, ranges, number)? {
+        let range = range_at(ends, ranges, number);
+        if !is_accepted_in(alloc, query, shared, columns, range)? {
             return Ok(false);
         }
     }

@@ -10,11 +10,12 @@ use Rattle.sem_query.specs.declared.plan.Dim.{Dim}
 use Rattle.sem_query.specs.declared.plan.Numbers.{Numbers}
 use Rattle.sql_catalog.specs.Streams.{Shape}
 use Rattle.sql_parser.specs.Resolution.{column_named}
+use Rattle.sql_printer.specs.PrintedParts.{op_text}
 use Rattle.sql_explain.specs.Text.{element_text}
 use Rattle.adv_lines.specs.declared.items.Remedy.{Remedy}
 use Rattle.adv_lines.specs.declared.items.Remedy.TheVariants.{Comparisons, Domains}
 use Rattle.adv_lines.specs.declared.items.TheConstants.{WITH_AND}
-use Rattle.adv_lines.specs.Lines.{numbers_text, op_text, change_head, bounds_item, domain_item, range_text}
+use Rattle.adv_lines.specs.Lines.{numbers_text, change_head, bounds_item, domain_item, range_text}
 
 -- a column or an integer behind a text
 unfoldable pub behind : List Shape → List ℕ → List ℕ → Element → List ℕ

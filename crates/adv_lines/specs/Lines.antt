@@ -3,8 +3,6 @@ use Rattle.std.specs.Prelude.{ℕ, ◌-◌, ◌^◌, ℤ, nat_eq, Bool, true, fa
 use Rattle.std.specs.Fmt.{signed_decimal}
 use Rattle.sem_query.specs.declared.condition.Condition.{Condition}
 use Rattle.sem_query.specs.declared.condition.Condition.TheVariants.{C1, C2, C3}
-use Rattle.sem_query.specs.declared.atom.Op.{Op}
-use Rattle.sem_query.specs.declared.atom.Op.TheVariants as op
 use Rattle.sem_query.specs.declared.decision.Which.{Which}
 use Rattle.sem_query.specs.declared.plan.Numbers.{Numbers}
 use Rattle.sem_query.specs.Verdict.{most}
@@ -54,15 +52,6 @@ reason_text false C3 = codes " is compared with a column of another stream and n
 -- a query that breaks a condition first in this part and at this column
 unfoldable pub violation_line : ℕ → List ℕ → ℕ → Bool → Condition → ColumnAst → List ℕ
 violation_line number name part distinct condition c = filled VIOLATION.now (decimal number ∷ name ∷ condition_text condition ∷ decimal part ∷ c.stream ∷ c.column ∷ reason_text distinct condition ∷ [])
-
--- a comparison between two spaces
-abbrev pub op_text : Op → List ℕ
-op_text op.Lt = codes " < "
-op_text op.Eq = codes " = "
-op_text op.Gt = codes " > "
-op_text op.Le = codes " <= "
-op_text op.Ge = codes " >= "
-op_text op.Ne = codes " <> "
 
 -- a change that has a name
 unfoldable pub change_head : List ℕ → List ℕ

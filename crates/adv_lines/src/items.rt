@@ -1,17 +1,17 @@
 //! The lines that name columns of a query: changes with its numbers, sets of columns, and ranges.
-ghost use Rattle.std.specs.Prelude.{◌≡◌, ◌++◌, ◌∷◌};
+ghost use Rattle.std.specs.Prelude.{◌≡◌};
 ghost use Rattle.std.specs.List.{flat_map};
-ghost use Rattle.std.specs.Fmt.{signed_decimal};
 ghost use Rattle.io_streams.specs.Sink.{Writes};
 ghost use Rattle.adv_lines.specs.Items as item;
 
-use crate::lines::{op_text, write_numbers};
+use crate::lines::write_numbers;
 use crate::names::{Named, Names, names_of};
 use crate::templates;
 use adv_templates::{Filling, Written, write_filled};
 use io_streams::{Sink, write_all, write_pieces};
 use itoa::Buffer;
 use sem_query::{Atom, Attr, Dim, Element, Numbers};
+use sql_printer::op_text;
 
 /// What stands before one comparison more.
 const WITH_AND: &[u8] = b"    with AND ";
@@ -23,41 +23,32 @@ pub enum Remedy {
     Domains,
 }
 
-// A column behind a text.
-fn write_column<'a, O: Sink>(out: &mut O, lead: &'a [u8], column: Named<'a>) -> Written
-    ensures { Writes result (O.seen out.old) (O.seen out.new) (lead.now ++ (column.entry.stream.now ++ 46 ∷ column.entry.column.now)) }
-{
-    let pieces: [&[u8]; 4] = [lead, column.stream, b".", column.column];
-    write_pieces(out, &pieces)
-}
-
-// An integer behind a text.
-fn write_integer<O: Sink>(out: &mut O, lead: &[u8], integer: &i64) -> Written
-    ensures { Writes result (O.seen out.old) (O.seen out.new) (lead.now ++ signed_decimal integer.now) }
-{
-    let mut buffer = Buffer::new();
-    let pieces: [&[u8]; 2] = [lead, buffer.format(*integer).as_bytes()];
-    write_pieces(out, &pieces)
-}
-
 /// Writes a column or an integer of a query behind a text.
 #[tactic(auto, unfolding(crate::specs::Items::behind))]
-pub fn write_element<O: Sink>(
+pub fn write_element<'a, O: Sink>(
     out: &mut O,
-    lead: &[u8],
+    lead: &'a [u8],
     element: &Element,
-    names: &Names<'_>,
+    names: &Names<'a>,
 ) -> Written
     ensures { Writes result (O.seen out.old) (O.seen out.new) (item.behind names.now.catalog.now names.now.from.now lead.now element.now) }
 {
     match element {
-        Element::Attr(attr) => write_column(out, lead, names_of(*attr, names)),
-        Element::Const(integer) => write_integer(out, lead, integer),
+        Element::Attr(attr) => {
+            let Named { stream, column } = names_of(*attr, names);
+            let pieces: [&[u8]; 4] = [lead, stream, b".", column];
+            write_pieces(out, &pieces)
+        }
+        Element::Const(integer) => {
+            let mut buffer = Buffer::new();
+            let pieces: [&[u8]; 2] = [lead, buffer.format(*integer).as_bytes()];
+            write_pieces(out, &pieces)
+        }
     }
 }
 
 /// Writes a change that has a name, with the numbers of the query that has it, where they are told: `    with COMPACT: parts 1 cells 8 answers 4 work 1`.
-#[tactic(auto, unfolding(crate::specs::Lines::change_head), using(crate::proofs::Texts::writes_behind, crate::proofs::Texts::broke_off, crate::proofs::Texts::stopped))]
+#[tactic(auto, unfolding(crate::specs::Lines::change_head), using(sql_explain::proofs::Writers::writes_after, sql_explain::proofs::Writers::broke, sql_explain::proofs::Writers::stopped))]
 pub fn write_change<O: Sink>(out: &mut O, name: &[u8], numbers: Option<Numbers>) -> Written
     ensures { Writes result (O.seen out.old) (O.seen out.new) (item.change_line name.now numbers) }
 {
@@ -71,7 +62,7 @@ pub fn write_change<O: Sink>(out: &mut O, name: &[u8], numbers: Option<Numbers>)
 }
 
 /// Writes one comparison more, with the numbers of the query that has it: `    with AND S.a < 9: parts 1 cells 8 answers 4 work 1`.
-#[tactic(auto, using(crate::proofs::Texts::writes_behind, crate::proofs::Texts::broke_off, crate::proofs::Texts::stopped))]
+#[tactic(auto, using(sql_explain::proofs::Writers::writes_after, sql_explain::proofs::Writers::broke, sql_explain::proofs::Writers::stopped))]
 pub fn write_comparison<O: Sink>(
     out: &mut O,
     atom: &Atom,
@@ -135,7 +126,7 @@ fn write_on_each<O: Sink>(out: &mut O, remedy: Remedy, set: &[Attr], names: &Nam
 }
 
 /// Writes that a set of columns mends the query: `    mended by AND S.a > LO AND S.a < HI`, or `    mended at CREATE STREAM by S.a IN LO..HI`.
-#[tactic(auto, using(crate::proofs::Texts::writes_behind, crate::proofs::Texts::broke_off, crate::proofs::Texts::stopped))]
+#[tactic(auto, using(sql_explain::proofs::Writers::writes_after, sql_explain::proofs::Writers::broke, sql_explain::proofs::Writers::stopped))]
 pub fn write_set<O: Sink>(out: &mut O, remedy: Remedy, set: &[Attr], names: &Names<'_>) -> Written
     ensures { Writes result (O.seen out.old) (O.seen out.new) (item.set_line remedy names.now.catalog.now names.now.from.now set.now) }
 {
@@ -160,25 +151,14 @@ fn write_range<O: Sink>(out: &mut O, lead: &'static [u8], dim: &Dim, names: &Nam
     write_filled(out, templates::RANGE, &fillings)
 }
 
-// The ranges behind the first.
-fn write_more_ranges<O: Sink>(out: &mut O, dims: &[Dim], names: &Names<'_>) -> Written
-    ensures { Writes result (O.seen out.old) (O.seen out.new) (flat_map (item.next_range names.now.catalog.now names.now.from.now) dims.now) }
-{
-    for dim in dims {
-        write_range(out, b", ", dim, names)?;
-    }
-    Ok(())
-}
-
 /// Writes columns with their least and greatest values: ` by S.a 1..37, S.b 3..39`, and nothing where there are none.
 pub fn write_ranges<O: Sink>(out: &mut O, dims: &[Dim], names: &Names<'_>) -> Written
     ensures { Writes result (O.seen out.old) (O.seen out.new) (item.ranges_text names.now.catalog.now names.now.from.now dims.now) }
 {
-    match dims {
-        [] => Ok(()),
-        [first, others @ ..] => {
-            write_range(out, b" by ", first, names)?;
-            write_more_ranges(out, others, names)
-        }
+    let mut lead: &'static [u8] = b" by ";
+    for dim in dims {
+        write_range(out, lead, dim, names)?;
+        lead = b", ";
     }
+    Ok(())
 }

@@ -2,15 +2,14 @@
 ghost use Rattle.std.specs.Prelude.{◌≡◌};
 ghost use Rattle.io_streams.specs.Sink.{Writes};
 ghost use Rattle.sem_query.specs.Verdict.{most};
-ghost use Rattle.sql_replies.specs.Texts as texts;
 ghost use Rattle.adv_lines.specs.Lines as line;
 
 use crate::names::Named;
 use crate::templates;
 use adv_templates::{Filling, Written, write_filled};
 use io_streams::{Sink, write_all};
-use sem_query::{Condition, Numbers, Op, Which};
-use sql_replies::condition_text;
+use sem_query::{Condition, Numbers, Which};
+use sql_replies::{condition_text, which_text};
 use sql_text::Name;
 
 /// Writes the four numbers of a query: `: parts 1 cells 1998 answers 999 work 1`.
@@ -59,17 +58,6 @@ pub fn write_pool<O: Sink>(out: &mut O, number: u64, name: &Name, needed: u32, f
     write_filled(out, templates::POOL, &fillings)
 }
 
-fn which_text(which: Which) -> &'static [u8]
-    ensures { result.now ≡ texts.which_text which }
-{
-    match which {
-        Which::Parts => b"parts",
-        Which::Cells => b"cells",
-        Which::Answers => b"answers",
-        Which::Work => b"work",
-    }
-}
-
 // The most that there may be of a number.
 fn most_of(which: Which) -> u32
     ensures { result ≡ most which }
@@ -82,18 +70,11 @@ fn most_of(which: Which) -> u32
     }
 }
 
-// Whether a number is the greatest of 64 bits, which stands for all numbers from there on.
-fn is_capped(value: u64) -> bool
-    ensures { result ≡ line.is_capped value }
-{
-    value == u64::MAX
-}
-
-// What stands before a number.
+// What stands before a number: the greatest of 64 bits stands for all numbers from there on.
 fn at_least(value: u64) -> &'static [u8]
     ensures { result.now ≡ line.at_least value }
 {
-    if is_capped(value) { b"at least " } else { b"" }
+    if value == u64::MAX { b"at least " } else { b"" }
 }
 
 /// Writes that a number of a query is above its limit; the greatest of 64 bits stands for all from there on.
@@ -160,20 +141,6 @@ pub fn write_violation<'a, O: Sink>(
     write_filled(out, templates::VIOLATION, &fillings)
 }
 
-/// Returns a comparison between two spaces.
-pub fn op_text(op: Op) -> &'static [u8]
-    ensures { result.now ≡ line.op_text op }
-{
-    match op {
-        Op::Lt => b" < ",
-        Op::Eq => b" = ",
-        Op::Gt => b" > ",
-        Op::Le => b" <= ",
-        Op::Ge => b" >= ",
-        Op::Ne => b" <> ",
-    }
-}
-
 /// Writes that a part has the elements that follow: `  part 23 has`.
 #[tactic(auto, unfolding(crate::specs::Lines::part_head))]
 pub fn write_part<O: Sink>(out: &mut O, part: u32) -> Written
@@ -195,7 +162,7 @@ fn cells_text(cells: u64) -> &'static [u8]
 pub fn write_kept<O: Sink>(out: &mut O, part: u32, cells: u64, kept: u64, stream: &[u8]) -> Written
     ensures { Writes result (O.seen out.old) (O.seen out.new) (line.kept_head part cells kept stream.now) }
 {
-    if !is_capped(cells) && cells == kept {
+    if cells != u64::MAX && cells == kept {
         let fillings = [
             Filling::Count(part),
             Filling::Number(cells),

@@ -28,17 +28,6 @@ fn number_at(from: &[u8], place: u8) -> u8
     from.get(usize::from(place)).copied().unwrap_or(0)
 }
 
-// The name of the stream of a number, and nothing where there is none.
-fn stream_name(catalog: &Catalog, number: u8) -> &[u8]
-    ensures { result.now ≡ stream_named catalog.now number }
-{
-    if number < catalog.len() {
-        catalog.stream_name(number).bytes()
-    } else {
-        b""
-    }
-}
-
 // The name of a column of the stream of a number, and nothing where there is none.
 fn column_name(catalog: &Catalog, number: u8, column: u8) -> &[u8]
     ensures { result.now ≡ column_at (shape_at catalog.now number).columns column }
@@ -54,7 +43,12 @@ fn column_name(catalog: &Catalog, number: u8, column: u8) -> &[u8]
 pub fn stream_at<'a>(place: u8, names: &Names<'a>) -> &'a [u8]
     ensures { result.now ≡ stream_named names.now.catalog.now (slice_index names.now.from.now place) }
 {
-    stream_name(names.catalog, number_at(names.from, place))
+    let number = number_at(names.from, place);
+    if number < names.catalog.len() {
+        names.catalog.stream_name(number).bytes()
+    } else {
+        b""
+    }
 }
 
 /// Returns a column of a query by its names, and nothing for a name that is not there.
@@ -64,7 +58,7 @@ pub fn names_of<'a>(attr: Attr, names: &Names<'a>) -> Named<'a>
 {
     let number = number_at(names.from, attr.stream);
     Named {
-        stream: stream_name(names.catalog, number),
+        stream: stream_at(attr.stream, names),
         column: column_name(names.catalog, number, attr.column),
     }
 }

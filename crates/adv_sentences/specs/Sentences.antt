@@ -1,6 +1,6 @@
 -- The sentence of each fault.
-use Rattle.std.specs.Prelude.{ℕ, ◌+◌, ◌==◌, ◌||◌, ℤ, Bool, List, [], ◌∷◌, ◌++◌, map, take, drop, if◌then◌else◌, decimal, codes, unwrap_or, Option, Some, None}
-use Rattle.std.specs.List.{find, flat_map, list_any, slice_index_or}
+use Rattle.std.specs.Prelude.{ℕ, ◌+◌, ◌==◌, ◌||◌, ℤ, List, [], ◌∷◌, ◌++◌, map, take, drop, if◌then◌else◌, decimal, codes, unwrap_or, Option, Some, None}
+use Rattle.std.specs.List.{find, list_any, slice_index_or}
 use Rattle.std.specs.Str.{str_eq_ignore_ascii_case}
 use Rattle.std.specs.Fmt.{signed_decimal}
 use Rattle.sql_text.specs.Blank.{trimmed}
@@ -94,7 +94,7 @@ or_text text other = if is_empty text then other else text
 
 -- an example of a column: the first of the first stream, where there is one
 abbrev pub example_text : List Shape → List ℕ
-example_text streams = filled texts.EXAMPLE.now (or_text (shape_at streams 0).name texts.STREAM_EXAMPLE.now ∷ or_text (column_at (shape_at streams 0).columns 0) texts.COLUMN_EXAMPLE.now ∷ [])
+example_text streams = filled (codes "_._") (or_text (shape_at streams 0).name (codes "Stream") ∷ or_text (column_at (shape_at streams 0).columns 0) (codes "column") ∷ [])
 
 -- the example, where one stands behind a hint
 abbrev pub example_for : Hint → List Shape → List ℕ
@@ -114,10 +114,10 @@ standing_text standing.Integer = codes "an integer stands here"
 standing_text standing.Sign = codes "a sign stands here"
 standing_text standing.Strange = codes "a byte stands here that begins no word, integer or sign"
 
--- texts with a comma and a space between two
-abbrev pub listed : {X : Type 0} → (X → List ℕ) → List X → List ℕ
-listed f [] = []
-listed f (x ∷ xs) = f x ++ flat_map (λ y. codes ", " ++ f y) xs
+-- texts, the first behind another text and each other behind a comma and a space
+abbrev pub listed : {X : Type 0} → (X → List ℕ) → List ℕ → List X → List ℕ
+listed f lead [] = []
+listed f lead (x ∷ xs) = lead ++ (f x ++ listed f (codes ", ") xs)
 
 -- a name is told by its bytes
 abbrev pub name_text : List ℕ → List ℕ
@@ -125,8 +125,7 @@ name_text name = name
 
 -- names that are there
 abbrev pub there_are : List (List ℕ) → List ℕ
-there_are [] = texts.THERE_IS_NONE.now
-there_are (x ∷ xs) = texts.THERE_ARE.now ++ listed name_text (x ∷ xs)
+there_are names = if is_empty names then (codes "there is none") else listed name_text (codes "there are: ") names
 
 -- a name that is the word but for the case of letters
 abbrev pub alike : List ℕ → List (List ℕ) → Option (List ℕ)
@@ -135,7 +134,7 @@ alike word names = find (λ n. str_eq_ignore_ascii_case n word) names
 -- that name, where there is one
 abbrev pub alike_text : Option (List ℕ) → List ℕ
 alike_text None = []
-alike_text (Some name) = filled texts.ALIKE.now (name ∷ [])
+alike_text (Some name) = filled (codes "; the case of letters counts: write _") (name ∷ [])
 
 -- names that are there, and the one that a word may mean
 abbrev pub there_are_like : List ℕ → List (List ℕ) → List ℕ
@@ -147,13 +146,12 @@ stream_names streams = map (λ s. s.name) streams
 
 -- what is said where no candidate may stand: a byte that begins nothing may stand behind the place where the statement goes wrong
 abbrev pub nothing_text : Standing → List ℕ
-nothing_text standing.Strange = texts.NOTHING_FITS.now
-nothing_text _ = texts.NOTHING_MAY.now
+nothing_text standing.Strange = (codes ", where nothing may stand: the statement has ended, or goes wrong before")
+nothing_text _ = (codes ", where the statement has ended")
 
 -- what may stand at a place, or else that nothing may
 abbrev pub next_text : List ℕ → List Candidate → List ℕ
-next_text nothing [] = nothing
-next_text nothing (c ∷ next) = texts.MAY_STAND.now ++ listed told_as (c ∷ next)
+next_text nothing next = if is_empty next then nothing else listed told_as (codes ", here may stand: ") next
 
 -- what is meant, or else what stands at the place and what may stand there
 abbrev pub meant_or : Option Hint → List ℕ → List Candidate → List Shape → List ℕ
@@ -164,18 +162,14 @@ meant_or None rest next streams = standing_text (standing_of rest) ++ next_text 
 abbrev pub syntax_text : List ℕ → ℕ → List Candidate → List Shape → List ℕ
 syntax_text text at next streams = meant_or (hint_of (take at text) (drop at text) next streams) (drop at text) next streams
 
--- the letter before an exponent
-abbrev pub is_exponent_letter : ℕ → Bool
-is_exponent_letter b = b == 101 || b == 69
-
 -- why a field is no integer
 abbrev pub field_text : List ℕ → List ℕ
-field_text [] = texts.FIELD_EMPTY.now
+field_text [] = (codes " is empty: a row has an integer for each column")
 field_text (b ∷ bs) =
-    if is_quote b then texts.FIELD_QUOTED.now else
-    (if is_letter b then texts.FIELD_WORD.now else
-    (if list_any (λ c. c == 46) (b ∷ bs) then texts.FIELD_DECIMAL.now else
-    (if list_any is_exponent_letter (b ∷ bs) then texts.FIELD_EXPONENT.now else texts.FIELD_OTHER.now)))
+    if is_quote b then (codes " is quoted: an integer stands without quotation marks") else
+    (if is_letter b then (codes " is a word: a row has integers alone, and a line of headings is none") else
+    (if list_any (λ c. c == 46) (b ∷ bs) then (codes " has a point: count in smaller units, as 125 tenths for 12.5") else
+    (if list_any (λ c. c == 101) (b ∷ bs) || list_any (λ c. c == 69) (b ∷ bs) then (codes " has an exponent: write all digits, as 1000 for 1e3") else (codes " is no integer of 64 bits, from -9223372036854775808 to 9223372036854775807"))))
 
 -- the field of a row line at a place, without the blanks at its ends
 abbrev pub field_at : List ℕ → ℕ → List ℕ
@@ -183,16 +177,16 @@ field_at line place = trimmed (slice_index_or (fields_of line) place [])
 
 -- a field that is no integer
 abbrev pub value_text : List ℕ → ℕ → List ℕ
-value_text line field = filled texts.FIELD.now (decimal (field + 1) ∷ field_text (field_at line field) ∷ [])
+value_text line field = filled (codes "field __") (decimal (field + 1) ∷ field_text (field_at line field) ∷ [])
 
 -- a row of a stream with the wrong number of fields
 abbrev pub arity_text : ℕ → ℕ → ℕ → List Shape → List ℕ
-arity_text stream wanted found streams = filled texts.ROW_COUNTS.now ((shape_at streams stream).name ∷ decimal wanted ∷ decimal found ∷ []) ++ listed name_text (column_names (shape_at streams stream).columns)
+arity_text stream wanted found streams = filled texts.ROW_COUNTS.now ((shape_at streams stream).name ∷ decimal wanted ∷ decimal found ∷ []) ++ listed name_text [] (column_names (shape_at streams stream).columns)
 
 -- the ends of a domain, where there is one
 abbrev pub ends_text : Option (ℤ × ℤ) → List ℕ
 ends_text None = []
-ends_text (Some ends) = filled texts.DOMAIN.now (signed_decimal ends.0 ∷ signed_decimal ends.1 ∷ [])
+ends_text (Some ends) = filled (codes "_.._") (signed_decimal ends.0 ∷ signed_decimal ends.1 ∷ [])
 
 -- a value outside the domain of its column
 abbrev pub domain_text : ℕ → ℕ → List Shape → List ℕ
@@ -203,37 +197,28 @@ domain_text stream field streams =
 abbrev pub column_fault : List Shape → ColumnAst → List ℕ
 column_fault streams c = filled texts.NO_COLUMN.now (c.stream ∷ c.column ∷ []) ++ there_are_like c.column (column_names (shape_at streams (unwrap_or (stream_number streams c.stream) 255)).columns)
 
--- the sentence of a fault of names
-unfoldable pub name_sentence : Fault → List Shape → List (List ℕ) → List ℕ
-name_sentence (faults.DuplicateStream name) streams live = filled texts.STREAM_THERE.now (name ∷ [])
-name_sentence (faults.DuplicateColumn name) streams live = filled texts.COLUMN_TWICE.now (name ∷ [])
-name_sentence (faults.DuplicateQuery name) streams live = filled texts.QUERY_LIVE.now (name ∷ [])
-name_sentence (faults.SelfJoin name) streams live = filled texts.TWICE_IN_FROM.now (name ∷ [])
-name_sentence (faults.NoStream name) streams live = filled texts.NO_STREAM.now (name ∷ []) ++ there_are_like name (stream_names streams)
-name_sentence (faults.NotInFrom column) streams live = filled texts.NOT_IN_FROM.now (column.stream ∷ column.column ∷ [])
-name_sentence (faults.NoColumn column) streams live = column_fault streams column
-name_sentence (faults.NoQuery name) streams live = filled texts.NO_QUERY.now (name ∷ []) ++ there_are_like name live
-name_sentence (faults.LockTwice name) streams live = filled texts.LOCK_TWICE.now (name ∷ [])
-name_sentence (faults.LockNoStream name) streams live = filled texts.LOCK_NO_STREAM.now (name ∷ []) ++ there_are_like name (stream_names streams)
-name_sentence _ streams live = []
-
--- the sentence of a fault of a row, or else of names
-unfoldable pub row_sentence : List ℕ → Fault → List Shape → List (List ℕ) → List ℕ
-row_sentence text faults.RowKey streams live = texts.ROW_KEY.now
-row_sentence text (faults.RowName bytes) streams live = filled texts.ROW_NAME.now (decimal bytes ∷ [])
-row_sentence text faults.RowStream streams live = filled texts.ROW_STREAM.now [] ++ there_are_like (word_of text) (stream_names streams)
-row_sentence text (faults.Arity stream wanted found) streams live = arity_text stream wanted found streams
-row_sentence text (faults.Value field) streams live = value_text text field
-row_sentence text (faults.Domain stream field) streams live = domain_text stream field streams
-row_sentence text fault streams live = name_sentence fault streams live
-
 -- the sentence of a fault, over what is left of its line, the streams, and the names of the live queries
 unfoldable pub sentence_text : List ℕ → Fault → List Shape → List (List ℕ) → List ℕ
 sentence_text text faults.LineTooLong streams live = texts.LONG_LINE.now
 sentence_text text (faults.Syntax at next) streams live = syntax_text text at next.items streams
 sentence_text text (faults.Limit what found) streams live = limit_text what found
-sentence_text text (faults.Locked line) streams live = filled texts.LOCKED.now (decimal line ∷ [])
-sentence_text text faults.NoLock streams live = texts.NO_LOCK.now
+sentence_text text (faults.DuplicateStream name) streams live = filled texts.STREAM_THERE.now (name ∷ [])
+sentence_text text (faults.DuplicateColumn name) streams live = filled texts.COLUMN_TWICE.now (name ∷ [])
+sentence_text text (faults.DuplicateQuery name) streams live = filled texts.QUERY_LIVE.now (name ∷ [])
 sentence_text text faults.TooManyStreams streams live = texts.MANY_STREAMS.now
 sentence_text text faults.TooManyQueries streams live = texts.MANY_QUERIES.now
-sentence_text text fault streams live = row_sentence text fault streams live
+sentence_text text (faults.NoStream name) streams live = filled texts.NO_STREAM.now (name ∷ []) ++ there_are_like name (stream_names streams)
+sentence_text text (faults.NotInFrom column) streams live = filled texts.NOT_IN_FROM.now (column.stream ∷ column.column ∷ [])
+sentence_text text (faults.NoColumn column) streams live = column_fault streams column
+sentence_text text (faults.SelfJoin name) streams live = filled texts.TWICE_IN_FROM.now (name ∷ [])
+sentence_text text (faults.NoQuery name) streams live = filled texts.NO_QUERY.now (name ∷ []) ++ there_are_like name live
+sentence_text text (faults.Locked line) streams live = filled texts.LOCKED.now (decimal line ∷ [])
+sentence_text text (faults.LockTwice name) streams live = filled (codes "TO names _ twice: leave it out once") (name ∷ [])
+sentence_text text (faults.LockNoStream name) streams live = filled texts.LOCK_NO_STREAM.now (name ∷ []) ++ there_are_like name (stream_names streams)
+sentence_text text faults.NoLock streams live = (codes "no lock stands here")
+sentence_text text faults.RowKey streams live = texts.ROW_KEY.now
+sentence_text text (faults.RowName bytes) streams live = filled texts.ROW_NAME.now (decimal bytes ∷ [])
+sentence_text text faults.RowStream streams live = filled texts.ROW_STREAM.now [] ++ there_are_like (word_of text) (stream_names streams)
+sentence_text text (faults.Arity stream wanted found) streams live = arity_text stream wanted found streams
+sentence_text text (faults.Value field) streams live = value_text text field
+sentence_text text (faults.Domain stream field) streams live = domain_text stream field streams

@@ -9,16 +9,15 @@ use Rattle.adv_diagnosis.specs.declared.fault.Fault.TheVariants as faults
 use Rattle.adv_diagnosis.specs.FaultWords.{word_of}
 use Rattle.adv_diagnosis.specs.Marks.{place_of}
 use Rattle.adv_templates.specs.Template.{filled}
-use Rattle.adv_sentences.specs.declared.texts.TheConstants as texts
 use Rattle.adv_sentences.specs.Sentences.{sentence_text}
 
 -- the number of a line and the word, as `line 8: Syntax`
 unfoldable pub head_text : ℕ → Refusal → List ℕ
-head_text number word = filled texts.HEAD.now (decimal number ∷ word_text word ∷ [])
+head_text number word = filled (codes "line _: _\n") (decimal number ∷ word_text word ∷ [])
 
 -- a text between two spaces and another text at the end of a line
 abbrev pub enclosed : List ℕ → List ℕ → List ℕ
-enclosed text end = filled texts.ENCLOSED.now (text ∷ end ∷ [])
+enclosed text end = filled (codes "  __\n") (text ∷ end ∷ [])
 
 -- the first 200 bytes of a text
 abbrev pub front_shown : List ℕ → List ℕ
@@ -56,12 +55,12 @@ shown_text text fault = marked_text text (place_of text fault)
 
 -- two spaces, and a place by its number from 1
 abbrev pub byte_text : ℕ → List ℕ
-byte_text at = filled texts.PLACE.now (decimal (at + 1) ∷ [])
+byte_text at = filled (codes "  at byte _: ") (decimal (at + 1) ∷ [])
 
 -- two spaces, and the place by its number from 1 where it is not shown
 unfoldable pub place_text : Option ℕ → List ℕ
-place_text None = texts.INDENT.now
-place_text (Some at) = if nat_lt 200 at then byte_text at else texts.INDENT.now
+place_text None = codes "  "
+place_text (Some at) = if nat_lt 200 at then byte_text at else codes "  "
 
 -- the line, its mark, and a line with the place where it is not shown and the sentence
 abbrev pub body_text : List ℕ → Fault → List Shape → List (List ℕ) → List ℕ

@@ -1,9 +1,7 @@
 //! What is wrong with a line, in a sentence for people: the line, a mark below the place where there is one, and what to do.
 #![tactic(auto)]
 
-mod field_texts;
 mod lists;
-mod sayings;
 mod sentences;
 mod texts;
 mod writing;

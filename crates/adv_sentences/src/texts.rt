@@ -1,14 +1,5 @@
 //! The sentences. Each `_` of one that tells a name or a number is a hole, which these fill.
 
-// The lines around a sentence.
-pub const HEAD: &[u8] = b"line _: _\n";
-
-pub const ENCLOSED: &[u8] = b"  __\n";
-
-pub const INDENT: &[u8] = b"  ";
-
-pub const PLACE: &[u8] = b"  at byte _: ";
-
 // Faults of names.
 pub const STREAM_THERE: &[u8] =
     b"there is a stream _ already: leave this line out, or take another name";
@@ -30,15 +21,7 @@ pub const NO_COLUMN: &[u8] = b"there is no column _._; ";
 pub const TWICE_IN_FROM: &[u8] =
     b"FROM names _ twice: create a second stream with the same columns, and send it the same rows";
 
-pub const LOCK_TWICE: &[u8] = b"TO names _ twice: leave it out once";
-
 pub const NO_QUERY: &[u8] = b"no live query has the name _; ";
-
-pub const THERE_ARE: &[u8] = b"there are: ";
-
-pub const ALIKE: &[u8] = b"; the case of letters counts: write _";
-
-pub const THERE_IS_NONE: &[u8] = b"there is none";
 
 // Lines that come too late, or are too long or too many.
 pub const LONG_LINE: &[u8] = b"a line has at most 1024 bytes, and this has more";
@@ -50,8 +33,6 @@ pub const MANY_QUERIES: &[u8] = b"64 queries are live, and that is the most: dro
 
 pub const LOCKED: &[u8] = b"the session was locked in line _; lines like this stand before it";
 
-pub const NO_LOCK: &[u8] = b"no lock stands here";
-
 // Rows, and their fields.
 pub const ROW_KEY: &[u8] = b"a row begins with the name of its stream, and this word is reserved";
 
@@ -62,40 +43,7 @@ pub const ROW_STREAM: &[u8] =
 
 pub const ROW_COUNTS: &[u8] = b"fields wanted by a row of _: _, found: _; its columns are: ";
 
-pub const FIELD: &[u8] = b"field __";
-
-pub const FIELD_EMPTY: &[u8] = b" is empty: a row has an integer for each column";
-
-pub const FIELD_QUOTED: &[u8] = b" is quoted: an integer stands without quotation marks";
-
-pub const FIELD_DECIMAL: &[u8] = b" has a point: count in smaller units, as 125 tenths for 12.5";
-
-pub const FIELD_WORD: &[u8] =
-    b" is a word: a row has integers alone, and a line of headings is none";
-
-pub const FIELD_EXPONENT: &[u8] = b" has an exponent: write all digits, as 1000 for 1e3";
-
-pub const FIELD_OTHER: &[u8] =
-    b" is no integer of 64 bits, from -9223372036854775808 to 9223372036854775807";
-
 pub const FIELD_OUTSIDE: &[u8] = b"field _, _._, lies outside ";
-
-pub const DOMAIN: &[u8] = b"_.._";
-
-// An example of a column.
-pub const EXAMPLE: &[u8] = b"_._";
-
-pub const STREAM_EXAMPLE: &[u8] = b"Stream";
-
-pub const COLUMN_EXAMPLE: &[u8] = b"column";
-
-// What may stand at a place.
-pub const NOTHING_MAY: &[u8] = b", where the statement has ended";
-
-pub const NOTHING_FITS: &[u8] =
-    b", where nothing may stand: the statement has ended, or goes wrong before";
-
-pub const MAY_STAND: &[u8] = b", here may stand: ";
 
 // What was most likely meant, by the number of the hint.
 pub const HINTS: [&[u8]; 38] = [

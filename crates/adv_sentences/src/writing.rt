@@ -1,11 +1,10 @@
 //! The text of a fault.
-ghost use Rattle.std.specs.Prelude.{◌≡◌, ◌++◌, ◌≤◌, length, map};
+ghost use Rattle.std.specs.Prelude.{◌≡◌, ◌≤◌, length, map};
 ghost use Rattle.io_streams.specs.Sink.{Writes};
 ghost use Rattle.adv_sentences.specs.Texts as specs;
 ghost use Rattle.adv_sentences.specs.Texts.{fault_text};
 
 use crate::sentences::write_sentence;
-use crate::texts;
 use adv_diagnosis::{Fault, Known, place_of, word_of};
 use adv_hints::front_of;
 use adv_templates::{Filling, Written, write_filled};
@@ -26,14 +25,6 @@ fn more_text(text: &[u8]) -> &'static [u8]
     } else {
         b""
     }
-}
-
-// A line behind two spaces: its first 200 bytes, and `..` where there are more.
-#[tactic(auto, unfolding(crate::specs::Texts::quoted_text))]
-fn write_quoted<O: Sink>(out: &mut O, text: &[u8]) -> Written
-    ensures { Writes result (O.seen out.old) (O.seen out.new) (specs.quoted_text text.now) }
-{
-    write_enclosed(out, front_of(text, MOST_SHOWN), more_text(text))
 }
 
 // A blank as wide as a byte.
@@ -60,16 +51,7 @@ fn write_enclosed<O: Sink>(out: &mut O, text: &[u8], end: &'static [u8]) -> Writ
     ensures { Writes result (O.seen out.old) (O.seen out.new) (specs.enclosed text.now end.now) }
 {
     let fillings = [Filling::Text(text), Filling::Fixed(end)];
-    write_filled(out, texts::ENCLOSED, &fillings)
-}
-
-// A mark below a place that stands behind these bytes of a line, at most 200.
-fn write_mark<O: Sink>(out: &mut O, front: &[u8]) -> Written
-    requires { length front.now ≤ 200 }
-    ensures { Writes result (O.seen out.old) (O.seen out.new) (specs.mark_line front.now) }
-{
-    let blanks = blanks_for(front);
-    write_enclosed(out, blanks.as_slice(), b"^")
+    write_filled(out, b"  __\n", &fillings)
 }
 
 // `line 8: Syntax`
@@ -78,7 +60,7 @@ fn write_head<O: Sink>(out: &mut O, number: u64, word: Refusal) -> Written
     ensures { Writes result (O.seen out.old) (O.seen out.new) (specs.head_text number word) }
 {
     let fillings = [Filling::Number(number), Filling::Fixed(word_text(word))];
-    write_filled(out, texts::HEAD, &fillings)
+    write_filled(out, b"line _: _\n", &fillings)
 }
 
 // The mark below a place, where the place is shown.
@@ -86,20 +68,23 @@ fn write_mark_at<O: Sink>(out: &mut O, text: &[u8], place: Option<u16>) -> Writt
     ensures { Writes result (O.seen out.old) (O.seen out.new) (specs.mark_text text.now place) }
 {
     match place {
-        Some(at) if at <= MOST_SHOWN => write_mark(out, front_of(text, at)),
+        Some(at) if at <= MOST_SHOWN => {
+            let blanks = blanks_for(front_of(text, at));
+            write_enclosed(out, blanks.as_slice(), b"^")
+        }
         _ => Ok(()),
     }
 }
 
-// The line and its mark; a line that is too long is not shown.
-#[tactic(auto, using(crate::proofs::Writers::writes_after, crate::proofs::Writers::broke_off, crate::proofs::Writers::stopped), unfolding(crate::specs::Texts::shown_text))]
+// The line behind two spaces, its first 200 bytes and `..` where there are more, and its mark; a line that is too long is not shown.
+#[tactic(auto, using(crate::proofs::Writers::writes_after, crate::proofs::Writers::broke_off, crate::proofs::Writers::stopped), unfolding(crate::specs::Texts::shown_text, crate::specs::Texts::quoted_text))]
 fn write_shown<O: Sink>(out: &mut O, text: &[u8], fault: &Fault) -> Written
     ensures { Writes result (O.seen out.old) (O.seen out.new) (specs.shown_text text.now fault.now) }
 {
     match fault {
         Fault::LineTooLong => Ok(()),
         _ => {
-            write_quoted(out, text)?;
+            write_enclosed(out, front_of(text, MOST_SHOWN), more_text(text))?;
             write_mark_at(out, text, place_of(text, fault))
         }
     }
@@ -112,9 +97,9 @@ fn write_place<O: Sink>(out: &mut O, place: Option<u16>) -> Written
 {
     match place {
         Some(at) if MOST_SHOWN < at => {
-            write_filled(out, texts::PLACE, &[Filling::Count(u32::from(at) + 1)])
+            write_filled(out, b"  at byte _: ", &[Filling::Count(u32::from(at) + 1)])
         }
-        _ => write_all(out, texts::INDENT),
+        _ => write_all(out, b"  "),
     }
 }
 

@@ -1,5 +1,5 @@
 -- Templates with holes, and what fills them.
-use Rattle.std.specs.Prelude.{ℕ, ◌==◌, List, [], ◌∷◌, ◌++◌, length, take, drop, decimal, unwrap_or}
+use Rattle.std.specs.Prelude.{ℕ, ◌+◌, ◌==◌, List, [], ◌∷◌, ◌++◌, length, take, drop, decimal, unwrap_or}
 use Rattle.std.specs.List.{position}
 use Rattle.std.specs.Fmt.{signed_decimal}
 use Rattle.adv_templates.specs.declared.template.Filling.{Filling}
@@ -20,4 +20,4 @@ hole_in template = unwrap_or (position (λ b. b == 95) template) (length templat
 -- a template with its holes filled in order
 unfoldable pub filled : List ℕ → List (List ℕ) → List ℕ
 filled template [] = template
-filled template (text ∷ texts) = take (hole_in template) template ++ (text ++ filled (drop 1 (drop (hole_in template) template)) texts)
+filled template (text ∷ texts) = take (hole_in template) template ++ (text ++ filled (drop (hole_in template + 1) template) texts)

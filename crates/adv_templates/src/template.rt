@@ -1,5 +1,5 @@
 //! A template, and what fills its holes.
-ghost use Rattle.std.specs.Prelude.{◌≡◌, ◌==◌, map, take, drop};
+ghost use Rattle.std.specs.Prelude.{◌≡◌, ◌+◌, ◌==◌, map, take, drop};
 ghost use Rattle.std.specs.List.{position};
 ghost use Rattle.io_streams.specs.Sink.{Writes};
 ghost use Rattle.adv_templates.specs.Template as specs;
@@ -28,48 +28,15 @@ fn place_of_hole(template: &[u8]) -> Option<usize>
     template.iter().position(|byte| *byte == b'_')
 }
 
-// The place of the first hole, or the end where there is none.
-fn hole_in(template: &[u8]) -> usize
-    ensures { result ≡ specs.hole_in template.now }
-{
-    match place_of_hole(template) {
-        Some(place) => place,
-        None => template.len(),
-    }
-}
-
-// The first so many bytes of a text, or all of it.
-fn front_of(text: &[u8], count: usize) -> &[u8]
-    ensures { result.now ≡ take count text.now }
-{
-    if count < text.len() {
-        text.split_at(count).0
-    } else {
-        text
-    }
-}
-
-// What stands behind so many bytes of a text, or nothing.
-fn rest_of(text: &[u8], count: usize) -> &[u8]
-    ensures { result.now ≡ drop count text.now }
-{
-    if count < text.len() {
-        text.split_at(count).1
-    } else {
-        &[]
-    }
-}
-
-// What stands before the first hole, and what stands behind it.
+// What stands before the first hole, and what stands behind it: nothing where there is none.
 fn cut_at_hole(template: &[u8]) -> (&[u8], &[u8])
     ensures before { result.0.now ≡ take (specs.hole_in template.now) template.now }
-    ensures behind { result.1.now ≡ drop 1 (drop (specs.hole_in template.now) template.now) }
+    ensures behind { result.1.now ≡ drop (specs.hole_in template.now + 1) template.now }
 {
-    let hole = hole_in(template);
-    (
-        front_of(template, hole),
-        rest_of(rest_of(template, hole), 1),
-    )
+    match place_of_hole(template) {
+        Some(hole) => (&template[..hole], &template[hole + 1..]),
+        None => (template, &[]),
+    }
 }
 
 // What fills a hole.
@@ -79,18 +46,9 @@ fn write_filling<O: Sink>(out: &mut O, filling: &Filling<'_>) -> Written
     match filling {
         Filling::Text(text) => write_all(out, text),
         Filling::Fixed(text) => write_all(out, text),
-        Filling::Number(number) => {
-            let mut buffer = Buffer::new();
-            write_all(out, buffer.format(*number).as_bytes())
-        }
-        Filling::Count(number) => {
-            let mut buffer = Buffer::new();
-            write_all(out, buffer.format(*number).as_bytes())
-        }
-        Filling::Integer(integer) => {
-            let mut buffer = Buffer::new();
-            write_all(out, buffer.format(*integer).as_bytes())
-        }
+        Filling::Number(number) => write_all(out, Buffer::new().format(*number).as_bytes()),
+        Filling::Count(number) => write_all(out, Buffer::new().format(*number).as_bytes()),
+        Filling::Integer(integer) => write_all(out, Buffer::new().format(*integer).as_bytes()),
     }
 }
 

@@ -38,12 +38,19 @@ fn sign_text(equal: bool) -> &'static [u8]
     if equal { b" = " } else { b" < " }
 }
 
+// An element behind the first, with the sign before it.
+fn write_step<O: Sink>(out: &mut O, step: &Step, names: &Names<'_>) -> Written
+    ensures { Writes result (O.seen out.old) (O.seen out.new) (said.next_step names.now.catalog.now names.now.from.now step.now) }
+{
+    write_element(out, sign_text(step.equal), &step.element, names)
+}
+
 // The elements behind the first.
 fn write_more_steps<O: Sink>(out: &mut O, steps: &[Step], names: &Names<'_>) -> Written
     ensures { Writes result (O.seen out.old) (O.seen out.new) (flat_map (said.next_step names.now.catalog.now names.now.from.now) steps.now) }
 {
     for step in steps {
-        write_element(out, sign_text(step.equal), &step.element, names)?;
+        write_step(out, step, names)?;
     }
     Ok(())
 }

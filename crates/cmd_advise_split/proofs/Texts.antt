@@ -1,20 +1,14 @@
 -- Texts that are written one behind another.
-use Rattle.std.proofs.Common.{◌≡◌, ℕ, ◌+◌, ◌-◌, ◌<◌, ◌≤◌, List, [], ◌∷◌, ◌++◌, length, take, drop, get_or, Option, refl, sym, ap, ◌∙◌, subst, arith}
-use Rattle.std.specs.declared.result.Result.{Result}
+use Rattle.std.proofs.Common.{◌≡◌, ℕ, ◌+◌, ◌-◌, ◌<◌, ◌≤◌, List, [], ◌∷◌, ◌++◌, length, take, drop, get_or, Option, sym, ap, ◌∙◌, subst, arith}
 use Rattle.std.specs.List.{flat_map, range_with_len}
 use Rattle.std.proofs.lemmas.List.{take_rest}
 use Rattle.std.proofs.lemmas.List.FromFn.{get_or-range_with_len, length-range_with_len}
-use Rattle.io_streams.specs.Sink.{SinkState, Wrote, BrokeOff, Writes}
+use Rattle.io_streams.specs.Sink.{SinkState, Wrote, BrokeOff}
 use Rattle.io_streams.proofs.Writing.{BrokeOff-at}
 use Rattle.sql_explain.proofs.Writers.{item_wrote, all_wrote}
-use Rattle.sql_printer.proofs.WritesBehind.{writes_then}
 use Rattle.adv_key_decision.specs.declared.judging.Judgement.{Judgement}
 use Rattle.adv_key_ranges.specs.declared.ranges.Ranges.{Ranges}
 use Rattle.cmd_advise_split.specs.Text.{one_query_text, queries_text}
-
--- a text was written, and then a second one
-pub writes_behind : {T E : Type 0} (r : Result T E) (a b c : SinkState) (s t : List ℕ) → Wrote a b s → Writes r b c t → Writes r a c (s ++ t)
-writes_behind r a b c s t p q = writes_then r a b c s t (s ++ t) refl p q
 
 module _ (f : ℕ → List ℕ) (n : ℕ) (a b c : SinkState) where
   at-number : (i : ℕ) → i < n → get_or (range_with_len 0 n) i 0 ≡ i

@@ -4,24 +4,14 @@ use Rattle.std.specs.declared.result.Result.{Result}
 use Rattle.std.specs.declared.result.Result.TheVariants.{Ok, Err}
 use Rattle.io_streams.specs.Source.{SourceState}
 use Rattle.sql_text.specs.Lines.{lines}
-use Rattle.io_line_reader.specs.Reading.{Reading, NextLine, TakesAll, answer_to}
-use Rattle.io_line_reader.specs.declared.reader.LineAnswer.TheVariants as answers
+use Rattle.io_line_reader.specs.Reading.{TakesAll}
 use Rattle.sql_script.specs.declared.end.ScriptEnd.{ScriptEnd}
 use Rattle.sql_script.specs.Ending.{StopsAt}
 use Rattle.cmd_advise_split.specs.declared.finding.Found.{Found}
-use Rattle.cmd_advise_split.specs.declared.reading.NextGiven.{NextGiven}
-use Rattle.cmd_advise_split.specs.declared.reading.NextGiven.TheVariants as next
 use Rattle.cmd_advise_split.specs.State.{State}
 use Rattle.cmd_advise_split.specs.Steps.{ComeTo}
 use Rattle.cmd_advise_split.specs.Splitting.{Splits}
 use Rattle.cmd_advise_split.specs.Finding.{IsFinding}
-
--- what comes next: a line, or none
-abbrev pub GivesNext : NextGiven → Reading → Reading → SourceState → SourceState → Type 0
-GivesNext (next.Given long) old new before after = NextLine (answer_to long) old new before after
-GivesNext next.End old new before after = NextLine answers.End old new before after
-GivesNext next.ReadFault old new before after = NextLine answers.ReadFault old new before after
-GivesNext next.ByteLimit old new before after = NextLine answers.ByteLimit old new before after
 
 -- the source was read to its end, and its lines have made this
 pub record ReadAll (source now : SourceState) (s : State) : Type 0 where

@@ -6,6 +6,7 @@ use Rattle.std.specs.declared.option.Option.{Option}
 use Rattle.std.specs.declared.option.Option.TheVariants.{None, Some}
 use Rattle.sql_catalog.specs.Streams.{Shape, shape_at, column_at}
 use Rattle.sql_replies.specs.Texts.{which_text}
+use Rattle.adv_templates.specs.Template.{filled}
 use Rattle.adv_key_decision.specs.declared.judging.Judgement.{Judgement}
 use Rattle.adv_key_decision.specs.declared.judging.Judgement.TheVariants.{Apart, Deduped, Home, Torn}
 use Rattle.adv_key_choices.specs.declared.choice.Choice.{Choice}
@@ -13,6 +14,7 @@ use Rattle.adv_key_choices.specs.Choices.{keys_in}
 use Rattle.adv_key_ranges.specs.declared.ranges.Ranges.{Ranges}
 use Rattle.adv_key_ranges.specs.declared.searching.Least.{Least}
 use Rattle.adv_key_ranges.specs.declared.searching.Least.TheVariants.{Number, NoneUpTo}
+use Rattle.cmd_advise_split.specs.declared.ranges.TheConstants as lines
 use Rattle.cmd_advise_split.specs.declared.told.ToldChoice.{ToldChoice}
 use Rattle.cmd_advise_split.specs.declared.finding.Finding.{Finding}
 use Rattle.cmd_advise_split.specs.declared.finding.Finding.TheVariants as finding
@@ -63,12 +65,9 @@ least_number (Number k) = k
 least_number (NoneUpTo m) = m
 
 -- the line of ranges, as `    refused limit cells; ranges of 1..1000000 with which it is accepted in each: 16`
-unfoldable pub ranges_line : List ℕ → List ℕ → List ℕ → List ℕ → List ℕ → List ℕ
-ranges_line which lo hi lead number =
-    codes "    refused limit " ++ (which ++ (codes "; ranges of " ++ (lo ++ (codes ".." ++ (hi ++ (codes " with which it is accepted in each: " ++ (lead ++ (number ++ (10 ∷ [])))))))))
-
 abbrev pub some_ranges_text : Ranges → List ℕ
-some_ranges_text r = ranges_line (which_text r.which) (signed_decimal r.ends.lo) (signed_decimal r.ends.hi) (least_lead r.least) (decimal (least_number r.least))
+some_ranges_text r =
+    filled lines.RANGES.now (which_text r.which ∷ signed_decimal r.ends.lo ∷ signed_decimal r.ends.hi ∷ least_lead r.least ∷ decimal (least_number r.least) ∷ [])
 
 -- nothing where there is nothing to say
 abbrev pub ranges_text : Option Ranges → List ℕ

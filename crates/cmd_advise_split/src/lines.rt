@@ -6,7 +6,8 @@ ghost use Rattle.cmd_advise_split.specs.Text as text;
 
 use adv_key_choices::Choice;
 use adv_key_decision::Judgement;
-use io_streams::{Sink, WriteFault, write_pieces};
+use adv_templates::Written;
+use io_streams::{Sink, write_pieces};
 use sql_catalog::Catalog;
 
 // What stands before a stream.
@@ -22,7 +23,7 @@ fn write_dealt<'a, O: Sink>(
     front: &'a [u8],
     stream: &'a [u8],
     column: &'a [u8],
-) -> Result<(), WriteFault>
+) -> Written
     ensures { Writes result (O.seen out.old) (O.seen out.new) (text.dealt_text front.now stream.now column.now) }
 {
     let pieces: [&[u8]; 4] = [front, stream, b" by ", column];
@@ -30,11 +31,7 @@ fn write_dealt<'a, O: Sink>(
 }
 
 // A stream that is broadcast.
-fn write_broadcast<'a, O: Sink>(
-    out: &mut O,
-    front: &'a [u8],
-    stream: &'a [u8],
-) -> Result<(), WriteFault>
+fn write_broadcast<'a, O: Sink>(out: &mut O, front: &'a [u8], stream: &'a [u8]) -> Written
     ensures { Writes result (O.seen out.old) (O.seen out.new) (text.broadcast_text front.now stream.now) }
 {
     let pieces: [&[u8]; 3] = [front, stream, b" to all"];
@@ -66,12 +63,7 @@ fn column_name(catalog: &Catalog, number: u8, column: u8) -> &[u8]
 }
 
 // A stream, by its key.
-fn write_by_key<O: Sink>(
-    out: &mut O,
-    catalog: &Catalog,
-    number: u8,
-    key: Option<u8>,
-) -> Result<(), WriteFault>
+fn write_by_key<O: Sink>(out: &mut O, catalog: &Catalog, number: u8, key: Option<u8>) -> Written
     requires { number < length catalog.now }
     ensures { Writes result (O.seen out.old) (O.seen out.new) (text.by_key_text catalog.now number key) }
 {
@@ -88,12 +80,7 @@ fn write_by_key<O: Sink>(
 }
 
 /// Writes the stream of a number as a choice deals it, as `deal Temp by room` or `, Watch to all`.
-pub fn write_stream<O: Sink>(
-    out: &mut O,
-    catalog: &Catalog,
-    choice: &Choice,
-    number: u8,
-) -> Result<(), WriteFault>
+pub fn write_stream<O: Sink>(out: &mut O, catalog: &Catalog, choice: &Choice, number: u8) -> Written
     requires { number < length catalog.now }
     ensures { Writes result (O.seen out.old) (O.seen out.new) (text.stream_text catalog.now choice.now number) }
 {
@@ -115,7 +102,7 @@ fn judgement_words(how: Judgement) -> &'static [u8]
 }
 
 // A query, and what is said of it.
-fn write_said<'a, O: Sink>(out: &mut O, name: &'a [u8], what: &'a [u8]) -> Result<(), WriteFault>
+fn write_said<'a, O: Sink>(out: &mut O, name: &'a [u8], what: &'a [u8]) -> Written
     ensures { Writes result (O.seen out.old) (O.seen out.new) (text.query_text name.now what.now) }
 {
     let pieces: [&[u8]; 3] = [b"  ", name, what];
@@ -123,7 +110,7 @@ fn write_said<'a, O: Sink>(out: &mut O, name: &'a [u8], what: &'a [u8]) -> Resul
 }
 
 /// Writes how the shards of a query answer, as `  hot: the answers of the shards together are the answers`.
-pub fn write_query<O: Sink>(out: &mut O, name: &[u8], how: Judgement) -> Result<(), WriteFault>
+pub fn write_query<O: Sink>(out: &mut O, name: &[u8], how: Judgement) -> Written
     ensures { Writes result (O.seen out.old) (O.seen out.new) (text.query_text name.now (text.judgement_text how)) }
 {
     write_said(out, name, judgement_words(how))

@@ -11,37 +11,29 @@ use crate::told::ToldChoice;
 use adv_key_choices::Choice;
 use adv_key_decision::Judgement;
 use adv_key_ranges::Ranges;
-use io_streams::{Sink, WriteFault, write_all, write_pieces};
+use adv_templates::Written;
+use io_streams::{Sink, write_all, write_pieces};
 use itoa::Buffer;
 use sql_catalog::Catalog;
 use sql_text::Name;
 
 // All streams, as a choice deals them.
-fn write_deal<O: Sink>(out: &mut O, catalog: &Catalog, choice: &Choice) -> Result<(), WriteFault>
+fn write_deal<O: Sink>(out: &mut O, catalog: &Catalog, choice: &Choice) -> Written
     ensures { Writes result (O.seen out.old) (O.seen out.new) (text.deal_text catalog.now choice.now) }
 {
     for number in 0..catalog.len() {
-        match write_stream(out, catalog, choice, number) {
-            Ok(()) => {}
-            Err(fault) => return Err(fault),
-        }
+        write_stream(out, catalog, choice, number)?;
     }
     Ok(())
 }
 
 // A query, how its shards answer, and what is said of its ranges.
-fn write_one<O: Sink>(
-    out: &mut O,
-    name: &[u8],
-    how: Judgement,
-    ranges: &Option<Ranges>,
-) -> Result<(), WriteFault>
+#[tactic(auto, using(sql_explain::proofs::Writers::writes_after, sql_explain::proofs::Writers::broke, sql_explain::proofs::Writers::stopped))]
+fn write_one<O: Sink>(out: &mut O, name: &[u8], how: Judgement, ranges: &Option<Ranges>) -> Written
     ensures { Writes result (O.seen out.old) (O.seen out.new) (text.one_query_text name.now how ranges.now) }
 {
-    match write_query(out, name, how) {
-        Ok(()) => write_ranges(out, ranges),
-        Err(fault) => Err(fault),
-    }
+    write_query(out, name, how)?;
+    write_ranges(out, ranges)
 }
 
 // The queries, in the order of their lines.
@@ -50,7 +42,7 @@ fn write_queries<O: Sink>(
     names: &[Name],
     judgements: &[Judgement],
     ranges: &[Option<Ranges>],
-) -> Result<(), WriteFault>
+) -> Written
     ensures { Writes result (O.seen out.old) (O.seen out.new) (text.queries_text names.now judgements.now ranges.now) }
 {
     match names {
@@ -68,40 +60,24 @@ fn write_queries<O: Sink>(
     }
 }
 
-// The end of the line of the streams, and then the queries.
-fn write_rest<O: Sink>(
-    out: &mut O,
-    names: &[Name],
-    judgements: &[Judgement],
-    ranges: &[Option<Ranges>],
-) -> Result<(), WriteFault>
-    ensures { Writes result (O.seen out.old) (O.seen out.new) (10 ∷ text.queries_text names.now judgements.now ranges.now) }
-{
-    match write_all(out, b"\n") {
-        Ok(()) => write_queries(out, names, judgements, ranges),
-        Err(fault) => Err(fault),
-    }
-}
-
 // A choice, how the shards answer each query under it, and what is said of its ranges.
-#[tactic(auto, using(crate::proofs::Texts::writes_behind))]
+#[tactic(auto, using(sql_explain::proofs::Writers::writes_after, sql_explain::proofs::Writers::broke, sql_explain::proofs::Writers::stopped))]
 fn write_choice<O: Sink>(
     out: &mut O,
     catalog: &Catalog,
     names: &[Name],
     told: &ToldChoice,
-) -> Result<(), WriteFault>
+) -> Written
     ensures { Writes result (O.seen out.old) (O.seen out.new) (text.choice_text catalog.now names.now told.now) }
 {
-    match write_deal(out, catalog, &told.choice) {
-        Ok(()) => write_rest(
-            out,
-            names,
-            told.judgements.as_slice(),
-            told.ranges.as_slice(),
-        ),
-        Err(fault) => Err(fault),
-    }
+    write_deal(out, catalog, &told.choice)?;
+    write_all(out, b"\n")?;
+    write_queries(
+        out,
+        names,
+        told.judgements.as_slice(),
+        told.ranges.as_slice(),
+    )
 }
 
 // All choices.
@@ -110,20 +86,17 @@ fn write_choices<O: Sink>(
     catalog: &Catalog,
     names: &[Name],
     list: &[ToldChoice],
-) -> Result<(), WriteFault>
+) -> Written
     ensures { Writes result (O.seen out.old) (O.seen out.new) (flat_map (text.choice_text catalog.now names.now) list.now) }
 {
     for told in list {
-        match write_choice(out, catalog, names, told) {
-            Ok(()) => {}
-            Err(fault) => return Err(fault),
-        }
+        write_choice(out, catalog, names, told)?;
     }
     Ok(())
 }
 
 // How many choices more there are, where there are more.
-fn write_more<O: Sink>(out: &mut O, more: usize) -> Result<(), WriteFault>
+fn write_more<O: Sink>(out: &mut O, more: usize) -> Written
     ensures { Writes result (O.seen out.old) (O.seen out.new) (text.more_text more) }
 {
     if more == 0 {
@@ -134,25 +107,9 @@ fn write_more<O: Sink>(out: &mut O, more: usize) -> Result<(), WriteFault>
     write_pieces(out, &pieces)
 }
 
-// The choices that are told, and how many more there are.
-#[tactic(auto, using(crate::proofs::Texts::writes_behind))]
-fn write_least<O: Sink>(
-    out: &mut O,
-    catalog: &Catalog,
-    names: &[Name],
-    told: &[ToldChoice],
-    more: usize,
-) -> Result<(), WriteFault>
-    ensures { Writes result (O.seen out.old) (O.seen out.new) (flat_map (text.choice_text catalog.now names.now) told.now ++ text.more_text more) }
-{
-    match write_choices(out, catalog, names, told) {
-        Ok(()) => write_more(out, more),
-        Err(fault) => Err(fault),
-    }
-}
-
 /// Writes what is found.
-pub fn print<O: Sink>(found: &Found, out: &mut O) -> Result<(), WriteFault>
+#[tactic(auto, using(sql_explain::proofs::Writers::writes_after, sql_explain::proofs::Writers::broke, sql_explain::proofs::Writers::stopped))]
+pub fn print<O: Sink>(found: &Found, out: &mut O) -> Written
     ensures { Writes result (O.seen out.old) (O.seen out.new) (text.finding_text found.now.state.streams found.now.state.names found.now.finding) }
 {
     let state = &found.state;
@@ -163,7 +120,8 @@ pub fn print<O: Sink>(found: &Found, out: &mut O) -> Result<(), WriteFault>
             b"the streams have more than 1048576 choices of keys, too many to look at\n",
         ),
         Finding::Least { told, more } => {
-            write_least(out, state.catalog(), state.names(), told.as_slice(), *more)
+            write_choices(out, state.catalog(), state.names(), told.as_slice())?;
+            write_more(out, *more)
         }
     }
 }

@@ -2,40 +2,14 @@
 ghost use Rattle.std.specs.Prelude.{◌≡◌, ◌-◌, ◌^◌, ◌<◌, ◌≤◌};
 ghost use Rattle.io_line_reader.specs.Reading.{fresh};
 ghost use Rattle.cmd_advise_split.specs.State.{empty};
-ghost use Rattle.cmd_advise_split.specs.Reading.{GivesNext, ReadsAll};
+ghost use Rattle.cmd_advise_split.specs.Reading.{ReadsAll};
 
 use crate::state::Splitting;
 use crate::taking::take_given;
-use io_line_reader::{LineAnswer, LineReader};
+use io_line_reader::LineReader;
 use io_streams::Source;
-use sql_script::ScriptEnd;
+use sql_script::{NextGiven, ScriptEnd, next_given};
 use std::alloc::Global;
-
-/// What comes next in a source.
-#[derive(Clone, Copy, Debug, PartialEq, Eq)]
-pub enum NextGiven {
-    /// A line, which may be longer than 1,024 bytes.
-    Given { long: bool },
-    /// There are no more lines, and the source is at its end.
-    End,
-    /// The source failed.
-    ReadFault,
-    /// The source has more bytes than can be counted.
-    ByteLimit,
-}
-
-// Reads the next line.
-fn next_given<I: Source>(reader: &mut LineReader, input: &mut I) -> NextGiven
-    ensures { GivesNext result reader.old reader.new (I.seen input.old) (I.seen input.new) }
-{
-    match reader.next_line(input) {
-        LineAnswer::Line => NextGiven::Given { long: false },
-        LineAnswer::TooLong => NextGiven::Given { long: true },
-        LineAnswer::End => NextGiven::End,
-        LineAnswer::ReadFault => NextGiven::ReadFault,
-        LineAnswer::ByteLimit => NextGiven::ByteLimit,
-    }
-}
 
 /// Takes all lines of a source, one after another.
 pub fn read_all<I: Source>(

@@ -1,13 +1,9 @@
 //! Lines of a script, taken one after another.
-ghost use Rattle.std.specs.Prelude.{◌≡◌, ◌<◌, ◌≤◌, ◌-◌, ◌^◌, None, true, [], IfOk, OnOk, length};
-ghost use Rattle.std.specs.List.{AllZip};
-ghost use Rattle.sem_query.specs.Query.{attrs_of};
+ghost use Rattle.std.specs.Prelude.{◌≡◌, ◌<◌, ◌-◌, ◌^◌, None, IfOk, OnOk};
 ghost use Rattle.sem_query.specs.Parts.{HasMoreParts};
-ghost use Rattle.adv_key_decision.specs.Equal.{NamesClass};
 ghost use Rattle.plan_parts.specs.Split.{OnTooMany};
 ghost use Rattle.adv_diagnosis.specs.Faults.{IsDiagnosis, IsReady};
 ghost use Rattle.cmd_advise_split.specs.Limited.{IsKnown};
-ghost use Rattle.cmd_advise_split.specs.State.{stopped};
 ghost use Rattle.cmd_advise_split.specs.Steps.{TakesQuery, TakesAsks, TakesLine, TakesGiven};
 
 use crate::state::Splitting;
@@ -15,35 +11,11 @@ use adv_diagnosis::{Asks, Fault, Known, diagnose, word_of};
 use adv_key_choices::KeyedQuery;
 use adv_key_decision::classes;
 use adv_key_ranges::limit_of;
-use arrayvec::ArrayVec;
 use plan_parts::{SplitError, split};
 use sem_query::Query;
 use sql_replies::Refusal;
 use sql_text::Name;
 use std::alloc::{AllocError, Global};
-
-// A query with the classes of its columns, and the limit that refuses it.
-fn with_limit(
-    alloc: Global,
-    query: Query,
-    shared: bool,
-    classes: ArrayVec<u8, 12>,
-) -> Result<KeyedQuery, AllocError>
-    requires { AllZip (NamesClass query) (attrs_of query.atoms) classes.items }
-    ensures query { IfOk result (λ keyed. keyed.query ≡ query) }
-    ensures shared { IfOk result (λ keyed. keyed.shared ≡ shared) }
-    ensures known { IfOk result IsKnown }
-{
-    match limit_of(alloc, &query, shared) {
-        Ok(limit) => Ok(KeyedQuery {
-            query,
-            classes,
-            shared,
-            limit,
-        }),
-        Err(fault) => Err(fault),
-    }
-}
 
 // A query with the classes of its columns, and the limit that refuses it, where it has no more than 4,096 parts.
 fn keyed_query(alloc: Global, query: Query, shared: bool) -> Result<KeyedQuery, SplitError>
@@ -55,8 +27,13 @@ fn keyed_query(alloc: Global, query: Query, shared: bool) -> Result<KeyedQuery, 
     match split(alloc, &query) {
         Ok(parts) => {
             let classes = classes(&query, parts.as_slice());
-            match with_limit(alloc, query, shared, classes) {
-                Ok(keyed) => Ok(keyed),
+            match limit_of(alloc, &query, shared) {
+                Ok(limit) => Ok(KeyedQuery {
+                    query,
+                    classes,
+                    shared,
+                    limit,
+                }),
                 Err(_) => Err(SplitError::Memory),
             }
         }
@@ -96,25 +73,17 @@ fn take_asks(alloc: Global, state: &mut Splitting, asks: Asks) -> Result<(), All
             name,
             query,
             shared,
-        } => take_query(alloc, state, name, query, shared),
-        Asks::Stream { name, columns } => {
-            state.add_stream(name, columns.as_slice());
-            Ok(())
-        }
-        Asks::Drop(name) => {
-            state.drop_query(&name);
-            Ok(())
-        }
+        } => return take_query(alloc, state, name, query, shared),
+        Asks::Stream { name, columns } => state.add_stream(name, columns.as_slice()),
+        Asks::Drop(name) => state.drop_query(&name),
         Asks::Nothing
         | Asks::Row
         | Asks::Explain
         | Asks::Other
         | Asks::Lock { .. }
-        | Asks::Unlock => {
-            state.count_line();
-            Ok(())
-        }
+        | Asks::Unlock => state.count_line(),
     }
+    Ok(())
 }
 
 // What a line asks for, as an open session reads it.
@@ -144,32 +113,8 @@ fn take_looked(alloc: Global, state: &mut Splitting, line: &[u8]) -> Result<(), 
     }
 }
 
-// Takes the next line of a script, which is not looked at where one before it is refused.
-fn take_line(alloc: Global, state: &mut Splitting, line: &[u8]) -> Result<(), AllocError>
-    requires { state.old.lines < 2 ^ 64 - 1 }
-    ensures { OnOk result (TakesLine state.old line.now state.new) }
-{
-    match state.stop() {
-        Some(_) => {
-            state.count_line();
-            Ok(())
-        }
-        None => take_looked(alloc, state, line),
-    }
-}
-
-// Takes a line of more than 1,024 bytes.
-fn take_long(state: &mut Splitting)
-    requires { state.old.lines < 2 ^ 64 - 1 }
-    ensures { TakesGiven true [] state.old state.new }
-{
-    match state.stop() {
-        Some(_) => state.count_line(),
-        None => state.stop_at(Refusal::LineTooLong),
-    }
-}
-
-/// Takes the next line of a script, of which nothing is looked at where it is too long. `AllocError` where no memory is found.
+/// Takes the next line of a script, which is not looked at where one before it is refused; nor is one of more than 1,024 bytes. `AllocError` where no memory
+/// is found.
 pub fn take_given(
     alloc: Global,
     long: bool,
@@ -179,10 +124,17 @@ pub fn take_given(
     requires { state.old.lines < 2 ^ 64 - 1 }
     ensures { OnOk result (TakesGiven long line.now state.old state.new) }
 {
-    if long {
-        take_long(state);
-        Ok(())
-    } else {
-        take_line(alloc, state, line)
+    match state.stop() {
+        Some(_) => {
+            state.count_line();
+            Ok(())
+        }
+        None => {
+            if long {
+                state.stop_at(Refusal::LineTooLong);
+                return Ok(());
+            }
+            take_looked(alloc, state, line)
+        }
     }
 }

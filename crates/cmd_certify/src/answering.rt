@@ -26,25 +26,19 @@ fn reason_text(reason: Reason) -> &'static [u8]
     }
 }
 
-// `certified q bounded parts N`, by its parts.
-fn write_bounded_text<'a, O: Sink>(
-    out: &mut O,
-    name: &'a [u8],
-    parts: &'a [u8],
-) -> Result<(), WriteFault>
-    ensures { Writes result (O.seen out.old) (O.seen out.new) (codes "certified " ++ name.now ++ codes " bounded parts " ++ parts.now ++ 10 ∷ []) }
-{
-    let pieces: [&[u8]; 5] = [b"certified ", name, b" bounded parts ", parts, b"\n"];
-    write_pieces(out, &pieces)
-}
-
 // `certified q bounded parts N`
 fn write_bounded<O: Sink>(out: &mut O, name: &[u8], parts: u32) -> Result<(), WriteFault>
     ensures { Writes result (O.seen out.old) (O.seen out.new) (codes "certified " ++ name.now ++ codes " bounded parts " ++ decimal parts ++ 10 ∷ []) }
 {
-    let mut buffer = Buffer::new();
-    let number = buffer.format(parts).as_bytes();
-    write_bounded_text(out, name, number)
+    let mut number = Buffer::new();
+    let pieces: [&[u8]; 5] = [
+        b"certified ",
+        name,
+        b" bounded parts ",
+        number.format(parts).as_bytes(),
+        b"\n",
+    ];
+    write_pieces(out, &pieces)
 }
 
 /// Writes the decision of a certificate that is good, and where no condition is broken how many parts the query has.

@@ -235,8 +235,8 @@ impl Session {
     }
 
     /// Counts the rows at the front of a text, as many at most as may be taken, of open streams of which each live query is known to refuse each
-    /// row and no column has a domain, each written without blanks and plus signs. It is not inlined: its loop then has all registers.
-    #[inline(never)]
+    /// row and no column has a domain, each written without blanks and plus signs. It is inlined into a function that is not.
+    #[inline(always)]
     pub(crate) fn pass_rows(&mut self, text: &[u8]) -> CountedRows
         requires ended { IsEnded text.now }
         ensures { AreCounted text.now self.old result.count result.begin result.end self.new }

@@ -107,6 +107,7 @@ impl KeptTuple {
         let start = put_values(line, tuple);
         self.len = put_text(&mut self.text, 0, line.split_at(start).1);
         self.tuple = Tuple::new();
+        // A tuple has room for 8 values, so this is done.
         let _whole = self.tuple.try_extend_from_slice(tuple).is_ok();
     }
 

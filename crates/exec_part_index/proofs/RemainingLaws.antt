@@ -5,7 +5,7 @@ use Rattle.std.proofs.lemmas.Bool.Decides.{nat_tests}
 use Rattle.std.proofs.lemmas.Int.{ints}
 use Rattle.std.proofs.lemmas.List.{take_all, take_more, take-take, length-take, get_or-map, get_or-set_same, get_or-set_other}
 use Rattle.std.proofs.lemmas.List.Folds.{list_all-append}
-use Rattle.std.proofs.lemmas.Option.{slice_get_within}
+use Rattle.std.proofs.lemmas.Option.{slice_get_within, get_or_from_slice_get}
 use Rattle.std.proofs.lemmas.Slice.{between_is}
 use Rattle.sem_query.specs.declared.atom.Element.{Element}
 use Rattle.sem_query.specs.declared.atom.Element.TheVariants as element
@@ -16,9 +16,8 @@ use Rattle.sem_query.specs.declared.plan.PartPlan.{PartPlan}
 use Rattle.sem_query.specs.Query.{QueryValue, attr_eq}
 use Rattle.sem_query.specs.declared.atom.Op.{Op}
 use Rattle.sem_query.specs.Assignment.{value, compares}
-use Rattle.sem_query.specs.Parts.{pairs, is_within, sign, sign_at, element_eq, pair_eq}
+use Rattle.sem_query.specs.Parts.{pairs, is_within, sign, sign_at, element_eq}
 use Rattle.sem_query.specs.Admission.{alone, sign_eq, meets_local, keeps_local}
-use Rattle.sem_query.proofs.Once.{pair_same}
 use Rattle.sem_laws.proofs.Tests.{sign_eq-itself, attr_eq-is, not_both, true_or_false, nat_true}
 use Rattle.exec_synopsis.specs.declared.prepared.Prepared.{Prepared}
 use Rattle.exec_synopsis.specs.Preparing.{IsPrepared, keeps_pair, keeps_tests}
@@ -43,12 +42,12 @@ said_or_not v ps ss i p s t within pair sign says has =
     ∙ ap (λ (xs : List Sign). get_or xs i s) has
     ∙ sym sign)
 
--- a pair that is the same as one of some pairs, and a sign that is that of this one
-pub has_sign : (v : ℕ → ℤ) (ps : List Pair) (ss : List Sign) (i : ℕ) (d p : Pair) (e s : Sign) → i < length ps → pair_eq (get_or ps i d) p ≡ true → sign_eq (get_or ss i e) s ≡ true
+-- one of some pairs, and a sign that is its own
+pub has_sign : (v : ℕ → ℤ) (ps : List Pair) (ss : List Sign) (i : ℕ) (p : Pair) (e s : Sign) → slice_get ps i ≡ Some p → sign_eq (get_or ss i e) s ≡ true
     → signs_at v ps ≡ ss → sign_eq (sign_at (alone v) p) s ≡ true
-has_sign v ps ss i d p e s within pair sign has =
-    let at : sign_at (alone v) (get_or ps i d) ≡ get_or ss i e = sym (get_or-map (sign_at (alone v)) ps i d e within) ∙ ap (λ (xs : List Sign). get_or xs i e) has in
-    ap (λ x. sign_eq (sign_at (alone v) x) s) (sym (pair_same (get_or ps i d) p pair)) ∙ ap (λ x. sign_eq x s) at ∙ sign
+has_sign v ps ss i p e s pair sign has =
+    let at : sign_at (alone v) (get_or ps i p) ≡ get_or ss i e = sym (get_or-map (sign_at (alone v)) ps i p e (slice_get_within ps i p pair)) ∙ ap (λ (xs : List Sign). get_or xs i e) has in
+    ap (λ x. sign_eq (sign_at (alone v) x) s) (sym (get_or_from_slice_get ps i p p pair)) ∙ ap (λ x. sign_eq x s) at ∙ sign
 
 -- a condition that asks for a sign of a pair
 pub asks_sign : (p : Pair) (s : Sign) (o : Op) (t : LocalCondition) → ((x y : ℤ) → compares o x (y +ℤ pos 0) ≡ sign_eq (sign x y) s)

@@ -1,18 +1,22 @@
 -- The signs that parts show at the pairs that are tested.
-use Rattle.std.proofs.Common.{◌≡◌, ℕ, zero, suc, ◌+◌, ◌<◌, List, [], ◌∷◌, ◌++◌, map, length, take, get_or, slice_get, slice_index_or, Some, refl, sym, ap, ap₂, ◌∙◌, subst, arith, length-append}
+use Rattle.std.proofs.Common.{◌≡◌, true, ℕ, zero, suc, ◌+◌, ◌<◌, List, [], ◌∷◌, ◌++◌, map, length, take, get_or, slice_get, slice_index_or, Some, refl, sym, ap, ap₂, ◌∙◌, subst, arith, length-append}
 use Rattle.std.proofs.lemmas.List.{take_more, map-append}
+use Rattle.std.proofs.lemmas.Option.{slice_get-get_or, get_or_from_slice_get}
 use Rattle.arrayvec.specs.ArrayVec.{ArrayVec}
 use Rattle.sem_query.specs.declared.part.Pair.{Pair}
 use Rattle.sem_query.specs.declared.part.Sign.{Sign}
 use Rattle.sem_query.specs.declared.plan.PartPlan.{PartPlan}
 use Rattle.sem_query.specs.Query.{QueryValue}
-use Rattle.sem_query.specs.Parts.{sign_at}
+use Rattle.sem_query.specs.Parts.{pairs, sign_at, pair_eq}
+use Rattle.sem_query.proofs.Once.{pair_same}
 use Rattle.sem_query.specs.Admission.{alone}
 use Rattle.plan_implied_signs.specs.declared.showing.Test.{Test}
+use Rattle.exec_synopsis.proofs.PrepareLaws.{pushed-get}
+use Rattle.exec_part_index.specs.declared.tests.Asking.{Asking}
 use Rattle.exec_part_index.specs.declared.tests.Tested.{Tested}
 use Rattle.exec_part_index.specs.PartIndex.{Shows}
 use Rattle.plan_implied_signs.specs.Showing.{ShowsSign}
-use Rattle.exec_part_index.specs.Showing.{shown_signs, AreShown, pairs_tested, IsShownBy, AreSignsOf}
+use Rattle.exec_part_index.specs.Showing.{shown_signs, AreShown, IsAsking, AreAskings, pairs_tested, IsShownBy, AreSignsOf}
 
 -- one pair more
 shown_more : (q : QueryValue) (part : PartPlan) (place : ℕ) (ps : List Pair) (ss : List Sign) (p : Pair) (s : Sign) → Shows q part place ps ss → ShowsSign q part place p s
@@ -91,12 +95,36 @@ each_shown q place ps (y ∷ parts) (x ∷ all) h zero part at_k =
 each_shown q place ps (y ∷ parts) (x ∷ all) h (suc k) part at_k = each_shown q place ps parts all h.1 k part at_k
 
 -- what is listed is shown
-pub all_shown : (q : QueryValue) (place : ℕ) (ps : List Pair) (parts : List PartPlan) (t : Tested) → t.pairs.items ≡ ps → AreSignsOf q place ps parts t.signs.items → AreShown q parts place t
-all_shown q place ps parts t are h = record {
+pub all_shown : (q : QueryValue) (place : ℕ) (ps : List Pair) (parts : List PartPlan) (t : Tested) → t.pairs.items ≡ ps → AreSignsOf q place ps parts t.signs.items → AreAskings (pairs q) place t.pairs.items t.askings.items → AreShown q parts place t
+all_shown q place ps parts t are h askings = record {
+  askings = askings;
   many = many_signs q place ps parts t.signs.items h;
   full = λ k within. full_signs q place ps parts t.signs.items h k within ∙ sym (ap length are);
   each = λ k part at_k. subst (λ (xs : List Pair). Shows q part place xs (shown_signs t k)) (sym are) (each_shown q place ps parts t.signs.items h k part at_k);
 }
+
+-- a pair that is found among some
+pub pair_found : (ps : List Pair) (i : ℕ) (d p : Pair) → i < length ps → d ≡ get_or ps i d → pair_eq d p ≡ true → slice_get ps i ≡ Some p
+pair_found ps i d p within is same = slice_get-get_or ps i d within ∙ ap (λ (x : Pair). Some x) (sym is ∙ pair_same d p same)
+
+-- how a row is asked for one pair more
+pub asking_more : (ps : List Pair) (place : ℕ) (tested : List Pair) (askings more : List Asking) (a : Asking) (i : ℕ) (d : Pair) → length askings ≡ i → more ≡ askings ++ a ∷ []
+    → AreAskings ps place tested askings → IsAsking place tested (get_or ps i d) a → AreAskings ps place tested more
+asking_more ps place tested askings more a i d many pushed are is =
+    let P : ℕ → Asking → Type 0 = λ k x. (p : Pair) → slice_get ps k ≡ Some p → IsAsking place tested p x in
+    subst (λ (xs : List Asking). AreAskings ps place tested xs) (sym pushed)
+    (pushed-get P askings a are
+    (λ p at_p. subst (λ (x : Pair). IsAsking place tested x a) (get_or_from_slice_get ps i p d (subst (λ n. slice_get ps n ≡ Some p) many at_p)) is))
+
+-- where nothing is listed
+pub no_askings : (ps : List Pair) (place : ℕ) (tested : List Pair) (askings : List Asking) → askings ≡ [] → AreAskings ps place tested askings
+no_askings ps place tested [] none i a at_i p at_p = absurd cc
+no_askings ps place tested (x ∷ xs) none i a at_i p at_p = absurd cc
+
+-- the same lists
+pub askings_over : (ps rs : List Pair) (place : ℕ) (ts us : List Pair) (askings : List Asking) → ps ≡ rs → ts ≡ us → AreAskings ps place ts askings → AreAskings rs place us askings
+askings_over ps rs place ts us askings same_pairs same_tested are =
+    subst (λ (xs : List Pair). AreAskings xs place us askings) same_pairs (subst (λ (xs : List Pair). AreAskings ps place xs askings) same_tested are)
 
 -- there are as many pairs as tests
 pub many_pairs : (tests : List Test) → length (pairs_tested tests) ≡ length tests

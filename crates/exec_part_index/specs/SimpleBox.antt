@@ -1,5 +1,5 @@
 -- The box of a part at a place of FROM, where it has at most two dims.
-use Rattle.std.specs.Prelude.{ℕ, ℤ, List, [], ◌∷◌}
+use Rattle.std.specs.Prelude.{◌≡◌, ℕ, ℤ, List, [], ◌∷◌}
 use Rattle.std.specs.List.{list_all}
 use Rattle.sem_query.specs.declared.plan.PartPlan.{PartPlan}
 use Rattle.sem_query.specs.Meaning.{by_column}
@@ -31,6 +31,7 @@ IsSimpleBox part place SimpleBox.Unlisted = Unit {0}
 IsSimpleBox part place (SimpleBox.Cell cell) = IsBoxLayout part place (record { axes = record { items = [] }; base = cell.number; kind = cell.kind })
 IsSimpleBox part place (SimpleBox.OneDim single) = IsOneDimBox part place single
 IsSimpleBox part place (SimpleBox.TwoDim double) = IsTwoDimBox part place double
+IsSimpleBox part place SimpleBox.Open = dims_at part place ≡ []
 
 -- where a row stands by the ranges of the dims
 abbrev pub IsInBox : PartPlan → ℕ → List ℤ → Placement → Type 0

@@ -1,11 +1,13 @@
 //! The parts that a row passes over, since it leaves their cells as they are.
 ghost use Rattle.std.specs.Prelude.{◌≡◌, ◌↔◌, ◌<◌, ◌≤◌, ◌+◌, true, false, length, slice_index_or, None, IfSome};
-ghost use Rattle.exec_part_index.specs.PartIndex.{IsPartIndex};
+ghost use Rattle.exec_part_index.specs.PartEntry.{IsPartEntry};
+ghost use Rattle.exec_part_index.specs.PartIndex.{buckets, IsNext, IsPartIndex};
 ghost use Rattle.exec_part_index.specs.Shifts.{StandsAt};
 ghost use Rattle.exec_synopsis.specs.Own.{with_row};
 ghost use Rattle.exec_part_index.specs.declared.left.Reached.TheVariants.{Part};
 ghost use Rattle.exec_part_index.specs.Leaving.{AreHeld, IsPlaced, IsCellOf, IsOnChain, HasPassed, HasReached, told_of, reached_of, number_of, reads_of, reads_to};
 
+use crate::part_entry::PartEntry;
 use crate::part_index::{CodedRow, PartIndex};
 use crate::prepared::PreparedPlan;
 use crate::shift::CellAt;
@@ -109,15 +111,29 @@ fn cell_told<L: Ledger>(
     }
 }
 
-// The cell of a row in the next part of a part's bucket, where it follows from its own cell in the part.
-fn cell_behind(led: &Led<'_>, own: OwnCell, i: u32) -> Option<CellAt>
+// What a row meets at the part of a number, by what it meets at each part.
+fn entry_of<'a>(led: &Led<'_>, entries: &'a [PartEntry], i: u32) -> &'a PartEntry
+    requires inside { i < length led.now.coded.parts.now }
     requires part_index { IsPartIndex led.now.coded.q.now led.now.coded.parts.now led.now.coded.pos led.now.part_index.now }
-    requires stands { StandsAt led.now.coded.q.now led.now.coded.parts.now led.now.coded.pos led.now.coded.row.now.items i (told_of own) }
-    ensures { IfSome result (λ cell. StandsAt led.now.coded.q.now led.now.coded.parts.now led.now.coded.pos led.now.coded.row.now.items (slice_index_or led.now.part_index.now.links.items i 0) cell) }
+    requires entries { entries.now ≡ led.now.part_index.now.entries.items }
+    ensures { IsPartEntry led.now.coded.parts.now led.now.coded.pos led.now.part_index.now.codes.items led.now.part_index.now.links.items led.now.part_index.now.spans.items i result.now }
 {
-    let part = led.coded.parts.get(i);
-    let placement = told_of(own).placement();
-    led.part_index.cell_after(&led.coded, part, placement, i)
+    // Named for the proof alone: the contract speaks of it.
+    let _parts = led.coded.parts.len();
+    &entries[i as usize]
+}
+
+// The next part of a part's bucket, by what a row meets at the part.
+fn next_by(led: &Led<'_>, entry: &PartEntry, i: u32) -> u32
+    requires inside { i < length led.now.coded.parts.now }
+    requires part_index { IsPartIndex led.now.coded.q.now led.now.coded.parts.now led.now.coded.pos led.now.part_index.now }
+    requires entry { IsPartEntry led.now.coded.parts.now led.now.coded.pos led.now.part_index.now.codes.items led.now.part_index.now.links.items led.now.part_index.now.spans.items i entry.now }
+    ensures next { IsNext (buckets led.now.part_index.now) (slice_index_or (buckets led.now.part_index.now) i 0) (i + 1) result }
+    ensures number { result ≡ slice_index_or led.now.part_index.now.links.items i 0 }
+{
+    // Named for the proof alone: the contract speaks of them.
+    let (_led, _part) = (led, i);
+    entry.next
 }
 
 // Leads a row from a part that admits it along the chain, as long as it leaves its own cell as it is and that tells its cell in the next
@@ -143,12 +159,14 @@ fn pass_left<L: Ledger>(
     ensures reads { steps.new.reads + start ≤ steps.old.reads + result.i + reads_of result.own }
     ensures writes { steps.new.writes ≡ steps.old.writes }
 {
-    let coded = &led.coded;
+    let (coded, part_index) = (&led.coded, led.part_index);
+    let entries = part_index.entries();
     let mut i = start;
     let mut own = cell_told(pool, led, cell, i, steps);
     'chain: while stays(&own, coded.row) {
-        let told = cell_behind(led, own, i);
-        i = led.part_index.after(coded.q, coded.parts, coded.pos, i);
+        let entry = entry_of(led, entries, i);
+        let told = part_index.cell_behind(coded, told_of(own), i, entry);
+        i = next_by(led, entry, i);
         match told {
             Some(next) => own = cell_told(pool, led, next, i, steps),
             None => return Passed { i, own: None },

@@ -12,7 +12,7 @@ use crate::shifts::{Chained, has_next_alike, prepared_of, shift_at};
 use crate::simple_box::{SimpleBox, simple_box_of};
 use crate::span::Span;
 use exec_synopsis::Prepared;
-use sem_query::{PartPlan, PartPlans, Query};
+use sem_query::{PartPlan, PartPlans, Query, dims_at};
 use std::alloc::{AllocError, Global};
 
 /// The code of a part, the next part of its bucket, the part's box, the conditions that remain beside its code, how many cells later the box of the
@@ -27,6 +27,17 @@ pub struct PartEntry {
     pub follows: bool,
 }
 
+// The box of a part at a place where no cell is listed.
+fn unlisted_box(part: &PartPlan, place: u8) -> SimpleBox
+    ensures { IsSimpleBox part.now place result }
+{
+    if dims_at(part, usize::from(place)).is_empty() {
+        SimpleBox::Open
+    } else {
+        SimpleBox::Unlisted
+    }
+}
+
 // The box of a part at a place.
 fn simple_box_in(q: &Query, part: &PartPlan, prepared: &Prepared, place: u8) -> SimpleBox
     requires { IsPrepared (pairs q.now) part.now prepared.now }
@@ -36,7 +47,7 @@ fn simple_box_in(q: &Query, part: &PartPlan, prepared: &Prepared, place: u8) -> 
     let _query = q;
     match prepared.places().get(usize::from(place)) {
         Some(listed) => simple_box_of(part, place, listed),
-        None => SimpleBox::Unlisted,
+        None => unlisted_box(part, place),
     }
 }
 

@@ -175,6 +175,13 @@ impl PartIndex {
         self.entry(q, parts, pos, i).next
     }
 
+    /// Returns what a row meets at each part.
+    pub fn entries(&self) -> &[PartEntry]
+        ensures { result.now ≡ self.now.entries.items }
+    {
+        self.entries.as_slice()
+    }
+
     // What a row meets at a part.
     fn entry(&self, q: &Query, parts: &PartPlans, pos: u8, i: u32) -> &PartEntry
         requires inside { i < length parts.now }
@@ -237,15 +244,33 @@ impl PartIndex {
         requires placement { IsPlacement part.now coded.now.pos coded.now.row.now.items (admits coded.now.q.now part.now coded.now.pos (by_column coded.now.row.now.items)) placement }
         ensures { IfSome result (λ cell. StandsAt coded.now.q.now coded.now.parts.now coded.now.pos coded.now.row.now.items (slice_index_or self.now.links.items i 0) cell) }
     {
+        // Named for the proof alone: the contract speaks of it.
+        let _part = part;
         match placement {
             Placement::Cell { number, kind } => {
                 let entry = self.entry(coded.q, coded.parts, coded.pos, i);
-                match entry.shift {
-                    Some(shift) => Some(shift.after(number)),
-                    None => self.cell_following(coded, CellAt { number, kind }, i, entry),
-                }
+                self.cell_behind(coded, CellAt { number, kind }, i, entry)
             }
             Placement::Inside | Placement::Outside => None,
+        }
+    }
+
+    /// Returns the same by what a row meets at the part, where it stands in a cell.
+    pub fn cell_behind(
+        &self,
+        coded: &CodedRow<'_>,
+        cell: CellAt,
+        i: u32,
+        entry: &PartEntry,
+    ) -> Option<CellAt>
+        requires part_index { IsPartIndex coded.now.q.now coded.now.parts.now coded.now.pos self.now }
+        requires entry { IsPartEntry coded.now.parts.now coded.now.pos self.now.codes.items self.now.links.items self.now.spans.items i entry.now }
+        requires stands { StandsAt coded.now.q.now coded.now.parts.now coded.now.pos coded.now.row.now.items i cell }
+        ensures { IfSome result (λ found. StandsAt coded.now.q.now coded.now.parts.now coded.now.pos coded.now.row.now.items (slice_index_or self.now.links.items i 0) found) }
+    {
+        match entry.shift {
+            Some(shift) => Some(shift.after(cell.number)),
+            None => self.cell_following(coded, cell, i, entry),
         }
     }
 

@@ -1,5 +1,5 @@
 //! What a part asks of a row that lies in the ranges of its dims and has its code: the signs and conditions that no tested pair says.
-ghost use Rattle.std.specs.Prelude.{◌≡◌, ◌≤◌, ◌<◌, ◌&&◌, ◌||◌, not, true, false, ℕ, ℤ, pos, ◌+ℤ◌, length, take, slice_get, All, IfOk, OnOk};
+ghost use Rattle.std.specs.Prelude.{◌≡◌, ◌≤◌, ◌<◌, ◌&&◌, ◌||◌, not, true, false, ℕ, ℤ, pos, ◌+ℤ◌, length, take, slice_get, Some, All, IfOk, OnOk};
 ghost use Rattle.std.specs.List.{list_all};
 ghost use Rattle.sem_query.specs.declared.plan.PartPlan.{PartPlan};
 ghost use Rattle.sem_query.specs.Assignment.{compares};
@@ -9,18 +9,18 @@ ghost use Rattle.exec_synopsis.specs.Preparing.{IsPrepared, keeps_pair, keeps_te
 ghost use Rattle.exec_part_index.specs.Span.{in_span, IsSpan};
 ghost use Rattle.exec_part_index.specs.PartIndex.{signs_at, code_after, AsksOnly};
 ghost use Rattle.exec_part_index.specs.Prepared.{ArePrepared};
-ghost use Rattle.exec_part_index.specs.Showing.{shown_signs, AreShown};
+ghost use Rattle.exec_part_index.specs.Showing.{shown_signs, AreShown, IsAsking, AreAskings};
 ghost use Rattle.exec_part_index.specs.Remaining.{meets_any, AreRemaining};
 ghost use Rattle.plan_implied_signs.specs.Showing.{SaysCondition};
 
 use crate::shifts::prepared_of;
 use crate::span::Span;
-use crate::tests::Tested;
+use crate::tests::{Asking, Tested};
 use exec_synopsis::Prepared;
 use plan_implied_signs::says_condition;
 use sem_query::{
     Attr, Element, LocalCondition, Op, Pair, PartPlan, PartPlans, Query, Sign, is_same,
-    is_same_element, is_same_pair, is_same_sign, is_within,
+    is_same_element, is_same_sign, is_within,
 };
 use std::alloc::{AllocError, Global};
 
@@ -31,12 +31,12 @@ pub struct Remaining {
     pub spans: Vec<Span>,
 }
 
-// Pairs, and a sign of each. Hints tell of a pair of the query where it may stand among these.
+// Pairs, a sign of each, and how a row is asked for each pair of the query where these are tested.
 #[derive(Clone, Copy)]
 struct Signed<'a> {
     pairs: &'a [Pair],
     signs: &'a [Sign],
-    hints: &'a [u8],
+    askings: &'a [Asking],
 }
 
 // Whether a condition asks for this sign of a pair, and for nothing else.
@@ -189,23 +189,44 @@ fn ask(
     }
 }
 
-// Whether the pair at a place of these has this sign, and is the same as another.
+// Whether the pair at a place of these has this sign.
 #[tactic(auto, using(crate::proofs::RemainingLaws::has_sign))]
 fn is_signed(signed: &Signed<'_>, i: usize, pair: Pair, wanted: Sign) -> bool
-    requires { length signed.now.signs.now ≡ length signed.now.pairs.now }
+    requires full { length signed.now.signs.now ≡ length signed.now.pairs.now }
+    requires pair { slice_get signed.now.pairs.now i ≡ Some pair }
     ensures { result ≡ true → (v : ℕ → ℤ) → signs_at v signed.now.pairs.now ≡ signed.now.signs.now → sign_eq (sign_at (alone v) pair) wanted ≡ true }
 {
-    i < signed.pairs.len()
-        && is_same_pair(signed.pairs[i], pair)
-        && is_same_sign(signed.signs[i], wanted)
+    // Named for the proof alone: the contract speaks of it.
+    let _pair = pair;
+    is_same_sign(signed.signs[i], wanted)
 }
 
-// Whether what is asked of a pair by its sign is of another stream, or the pair at the hinted place says it.
-fn is_told(signed: &Signed<'_>, hint: usize, place: u8, pair: Pair, wanted: Sign) -> bool
-    requires { length signed.now.signs.now ≡ length signed.now.pairs.now }
+// Whether what is asked of a pair by its sign is of another stream, or the pair is tested and has this sign.
+fn is_told(signed: &Signed<'_>, asking: Asking, place: u8, pair: Pair, wanted: Sign) -> bool
+    requires full { length signed.now.signs.now ≡ length signed.now.pairs.now }
+    requires asking { IsAsking place signed.now.pairs.now pair asking }
     ensures { result ≡ true → (v : ℕ → ℤ) → signs_at v signed.now.pairs.now ≡ signed.now.signs.now → (not (is_within place pair.left pair.right) || sign_eq (sign_at (alone v) pair) wanted) ≡ true }
 {
-    !is_within(usize::from(place), pair) || is_signed(signed, hint, pair, wanted)
+    // Named for the proof alone: the contract speaks of it.
+    let _place = place;
+    match asking {
+        Asking::Elsewhere => true,
+        Asking::Tested(k) => is_signed(signed, usize::from(k), pair, wanted),
+        Asking::Untested => false,
+    }
+}
+
+// How a row is asked for the sign of the pair of a number.
+fn asking_at(signed: &Signed<'_>, place: u8, pairs: &[Pair], i: usize) -> Asking
+    requires { AreAskings pairs.now place signed.now.pairs.now signed.now.askings.now }
+    ensures { (p : Pair) → slice_get pairs.now i ≡ Some p → IsAsking place signed.now.pairs.now p result }
+{
+    // Named for the proof alone: the contract speaks of them.
+    let (_place, _pairs) = (place, pairs);
+    match signed.askings.get(i) {
+        Some(asking) => *asking,
+        None => Asking::Untested,
+    }
 }
 
 // Adds what the pair of a number asks of a row by its sign, where the signs of some pairs do not say it. An error says that memory was not found.
@@ -217,14 +238,15 @@ fn ask_number(
     signs: &[Sign],
     i: u8,
 ) -> Result<(), AllocError>
-    requires { length signed.now.signs.now ≡ length signed.now.pairs.now }
+    requires full { length signed.now.signs.now ≡ length signed.now.pairs.now }
+    requires askings { AreAskings pairs.now place signed.now.pairs.now signed.now.askings.now }
     ensures { OnOk result ((v : ℕ → ℤ) → signs_at v signed.now.pairs.now ≡ signed.now.signs.now → list_all (meets_local (alone v)) list.new.items ≡ (list_all (meets_local (alone v)) list.old.items && keeps_pair place (alone v) (slice_get pairs.now i) (slice_get signs.now i))) }
 {
     let i = usize::from(i);
     let (pair, sign) = (pairs.get(i).copied(), signs.get(i).copied());
-    let hint = signed.hints.get(i).copied().unwrap_or(u8::MAX);
+    let asking = asking_at(signed, place, pairs, i);
     if let (Some(pair), Some(sign)) = (pair, sign) {
-        if is_told(signed, usize::from(hint), place, pair, sign) {
+        if is_told(signed, asking, place, pair, sign) {
             return Ok(());
         }
     }
@@ -240,7 +262,8 @@ fn asked_beside(
     place: u8,
     signed: &Signed<'_>,
 ) -> Result<Vec<LocalCondition>, AllocError>
-    requires { length signed.now.signs.now ≡ length signed.now.pairs.now }
+    requires full { length signed.now.signs.now ≡ length signed.now.pairs.now }
+    requires askings { AreAskings (pairs q.now) place signed.now.pairs.now signed.now.askings.now }
     ensures { IfOk result (λ list. (v : ℕ → ℤ) → signs_at v signed.now.pairs.now ≡ signed.now.signs.now → list_all (meets_local (alone v)) list.items ≡ (keeps_tests place (alone v) (pairs q.now) part.now.signs.items prepared.now.tests.items && keeps_local place (alone v) prepared.now.asked.items)) }
 {
     let mut list: Vec<LocalCondition> = Vec::new(alloc);
@@ -265,6 +288,7 @@ fn remaining_of(
     signed: &Signed<'_>,
 ) -> Result<Vec<LocalCondition>, AllocError>
     requires full { length signed.now.signs.now ≡ length signed.now.pairs.now }
+    requires askings { AreAskings (pairs q.now) place signed.now.pairs.now signed.now.askings.now }
     requires few { length signed.now.pairs.now ≤ 20 }
     requires prepared { IsPrepared (pairs q.now) part.now prepared.now }
     ensures { IfOk result (λ list. AsksOnly q.now part.now place signed.now.pairs.now (code_after 0 signed.now.signs.now) list.items) }
@@ -279,13 +303,14 @@ fn signed_at<'a>(q: &Query, parts: &PartPlans, place: u8, tested: &'a Tested, i:
     ensures pairs { result.pairs.now ≡ tested.now.pairs.items }
     ensures signs { result.signs.now ≡ shown_signs tested.now i }
     ensures full { length result.signs.now ≡ length result.pairs.now }
+    ensures askings { AreAskings (pairs q.now) place result.pairs.now result.askings.now }
 {
     // Named for the proof alone: the contract speaks of them.
     let (_query, _parts, _place) = (q, parts.len(), place);
     Signed {
         pairs: tested.pairs.as_slice(),
         signs: tested.signs[i as usize].as_slice(),
-        hints: tested.hints.as_slice(),
+        askings: tested.askings.as_slice(),
     }
 }
 

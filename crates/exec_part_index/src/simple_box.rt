@@ -44,6 +44,8 @@ pub enum SimpleBox {
     OneDim(OneDimBox),
     /// There are two dims.
     TwoDim(TwoDimBox),
+    /// There is no dim, and no cell, as in a query over one stream.
+    Open,
 }
 
 impl DimRange {
@@ -102,7 +104,7 @@ impl TwoDimBox {
 }
 
 impl SimpleBox {
-    /// Returns where a row stands by the ranges of the dims, where the box has at most one.
+    /// Returns where a row stands by the ranges of the dims, where the box has at most one and there is a cell.
     #[inline(always)]
     pub fn placement(self, part: &PartPlan, pos: u8, row: &[i64]) -> Option<Placement>
         requires { IsSimpleBox part.now pos self }
@@ -111,7 +113,7 @@ impl SimpleBox {
         match self {
             SimpleBox::Cell(cell) => Some(cell.placement()),
             SimpleBox::OneDim(single) => Some(single.placement(part, pos, row)),
-            SimpleBox::Unlisted | SimpleBox::TwoDim(_) => None,
+            SimpleBox::Unlisted | SimpleBox::TwoDim(_) | SimpleBox::Open => None,
         }
     }
 
@@ -123,6 +125,7 @@ impl SimpleBox {
     {
         match self {
             SimpleBox::TwoDim(double) => Some(double.placement(part, pos, row)),
+            SimpleBox::Open => Some(Placement::Inside),
             _ => self.placement(part, pos, row),
         }
     }

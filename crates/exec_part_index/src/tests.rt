@@ -3,7 +3,7 @@
 ghost use Rattle.std.specs.Prelude.{◌≡◌, ◌≤◌, [], length, IfOk, IfSome};
 ghost use Rattle.sem_query.specs.Parts.{pairs};
 ghost use Rattle.exec_part_index.specs.Prepared.{ArePrepared};
-ghost use Rattle.exec_part_index.specs.Showing.{pairs_tested, IsShownBy, AreSignsOf, AreShown};
+ghost use Rattle.exec_part_index.specs.Showing.{pairs_tested, IsShownBy, AreSignsOf, AreShown, IsAsking, AreAskings};
 
 use crate::shifts::prepared_of;
 use arrayvec::ArrayVec;
@@ -15,12 +15,23 @@ use sem_query::{
 };
 use std::alloc::{AllocError, Global};
 
-/// The pairs that are tested at a place, and the sign that each part shows at each of them. Hints tell of a pair of the query where it may stand among these.
+/// How a row of the stream at a place is asked for the sign of a pair.
+#[derive(Clone, Copy)]
+pub enum Asking {
+    /// The pair is not of this stream, and nothing is asked.
+    Elsewhere,
+    /// The pair has this place among those that are tested.
+    Tested(u8),
+    /// It is not known to be either.
+    Untested,
+}
+
+/// The pairs that are tested at a place, the sign that each part shows at each of them, and how a row is asked for each pair of the query.
 #[derive(Drop)]
 pub struct Tested {
     pub pairs: Vec<Pair>,
     pub signs: Vec<Signs>,
-    pub hints: Vec<u8>,
+    pub askings: Vec<Asking>,
 }
 
 // A pair at which each part shows one sign, and this sign where it is the same of all: if not, it tells parts from each other.
@@ -398,19 +409,38 @@ fn pairs_of(alloc: Global, tests: &[Test]) -> Result<Vec<Pair>, AllocError>
     Ok(pairs)
 }
 
-// For each pair of the query the place of its test, where there is one.
-fn hints_of(alloc: Global, q: &Query, tests: &[Test]) -> Result<Vec<u8>, AllocError>
-    requires { length tests.now ≤ 20 }
+// How a row of the stream at a place is asked for the sign of a pair, where some pairs are tested.
+#[tactic(auto, using(crate::proofs::TestsLaws::pair_found))]
+fn asking_of(place: u8, pair: Pair, tested: &[Pair]) -> Asking
+    requires { length tested.now ≤ 20 }
+    ensures { IsAsking place tested.now pair result }
 {
-    let mut hints: Vec<u8> = vec![in alloc; u8::MAX; q.pairs().as_slice().len()]?;
-    'tests: for (i, test) in tests.iter().enumerate() {
-        if let Some(number) = test.number {
-            if let Some(hint) = hints.get_mut(usize::from(number)) {
-                *hint = i as u8;
-            }
+    if !is_within(usize::from(place), pair) {
+        return Asking::Elsewhere;
+    }
+    'pairs: for (i, other) in tested.iter().enumerate() {
+        if is_same_pair(*other, pair) {
+            return Asking::Tested(i as u8);
         }
     }
-    Ok(hints)
+    Asking::Untested
+}
+
+// The same of each of some pairs. An error says that memory was not found.
+fn askings_of(
+    alloc: Global,
+    pairs: &[Pair],
+    place: u8,
+    tested: &[Pair],
+) -> Result<Vec<Asking>, AllocError>
+    requires { length tested.now ≤ 20 }
+    ensures { IfOk result (λ askings. AreAskings pairs.now place tested.now askings.items) }
+{
+    let mut askings: Vec<Asking> = Vec::with_capacity(alloc, pairs.len())?;
+    'pairs: for pair in pairs {
+        askings.push(asking_of(place, *pair, tested))?;
+    }
+    Ok(askings)
 }
 
 // For each part no signs.
@@ -441,7 +471,7 @@ fn untested(alloc: Global, q: &Query, parts: &PartPlans, place: u8) -> Result<Te
     Ok(Tested {
         pairs: Vec::new(alloc),
         signs,
-        hints: Vec::new(alloc),
+        askings: Vec::new(alloc),
     })
 }
 
@@ -459,12 +489,13 @@ fn tested_by(
     ensures few { IfOk result (λ t. length t.pairs.items ≤ 20) }
 {
     let pairs = pairs_of(alloc, tests)?;
-    let hints = hints_of(alloc, q, tests)?;
+    let numbered = q.pairs().as_slice();
+    let askings = askings_of(alloc, numbered, place, pairs.as_slice())?;
     match all_signs(alloc, q, parts, place, tests)? {
         Some(signs) => Ok(Tested {
             pairs,
             signs,
-            hints,
+            askings,
         }),
         None => untested(alloc, q, parts, place),
     }

@@ -17,7 +17,6 @@ pub mod PlanFacts
 pub mod Keeping
 pub mod Rows
 pub mod Lines
-pub mod LoneLines
 pub mod Settled
 pub mod Running
 pub mod Standings

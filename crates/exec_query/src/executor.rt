@@ -24,7 +24,7 @@ use crate::access::{Access, access_of};
 use crate::filter::plain_filter_row;
 use crate::join::Scratch;
 use crate::output::put_waiting;
-use crate::row::{Arrived, QueryAt, apply_row, meet_by_cells};
+use crate::row::{PlanAt, apply_row, meet_by_cells};
 use crate::two_cells::answer_anew;
 use exec_answer_lines::AnswerLines;
 use exec_answer_table::Answers;
@@ -87,18 +87,29 @@ fn most_answers(plan: &Plan) -> u32
     }
 }
 
-/// Leaves nothing that waits; with DISTINCT the tuples stay.
+// Leaves nothing that waits of what a table holds; with DISTINCT the tuples stay. It is not inlined, so that a row before which nothing
+// waited pays nothing for it.
+#[cold]
+#[inline(never)]
+fn clear_listed(distinct: bool, table: &mut Answers)
+    ensures { table.new ≡ with_entries table.old (cleared distinct table.old.entries) }
+{
+    if distinct {
+        table.settle();
+    } else {
+        table.clear();
+    }
+}
+
+/// Leaves nothing that waits; with DISTINCT the tuples stay. Most often nothing is there, and this is seen at less cost than clearing has.
+#[inline(always)]
 pub fn clear(distinct: bool, table: &mut Answers)
     ensures { table.new ≡ with_entries table.old (cleared distinct table.old.entries) }
 {
     if table.len() == 0 {
         return;
     }
-    if distinct {
-        table.settle();
-    } else {
-        table.clear();
-    }
+    clear_listed(distinct, table);
 }
 
 // Whether an answer waits in a table.
@@ -163,11 +174,11 @@ impl Executor {
         ensures took { TakesRow self.old pool.old (arrival stream row.now.items) self.new pool.new }
         ensures steps { KeepsToWork self.old (arrival stream row.now.items) steps.old steps.new }
     {
-        // Whether something waits is not asked here.
         let hint = RowHint {
             is_within: false,
             is_alone: true,
         };
+        // Whether something waits is not asked here.
         let _waits = self.apply(hint, pool, stream, row, steps);
     }
 
@@ -231,15 +242,14 @@ impl Executor {
             return self.apply_by_plan(is_within, pool, stream, row, steps);
         };
         self.given += 1;
-        let query = QueryAt {
+        let query = PlanAt {
             q: &self.query,
             plan: &self.plan,
             prepared: &self.prepared,
             extent: &self.extent,
             known: false,
         };
-        let arrived = Arrived { stream, row };
-        let there = meet_by_cells(pool, &query, direct, &arrived, steps);
+        let there = meet_by_cells(pool, &query, direct, stream, row, steps);
         answer_anew(
             &self.query,
             direct,
@@ -326,18 +336,18 @@ impl Executor {
         self.given += 1;
         clear(self.query.distinct(), &mut self.table);
         let known = self.saturation.spares(&self.query);
-        let query = QueryAt {
+        let query = PlanAt {
             q: &self.query,
             plan: &self.plan,
             prepared: &self.prepared,
             extent: &self.extent,
             known,
         };
-        let arrived = Arrived { stream, row };
         apply_row(
             pool,
             &query,
-            &arrived,
+            stream,
+            row,
             &mut self.scratch,
             &mut self.table,
             steps,

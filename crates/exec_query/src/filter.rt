@@ -4,13 +4,13 @@ ghost use Rattle.std.specs.List.{list_all};
 ghost use Rattle.sem_query.specs.Assignment.{meets, holds};
 ghost use Rattle.sem_query.specs.Meaning.{assignment_of, by_column};
 ghost use Rattle.exec_filter.specs.PlainFilter.{plain_filter_meets};
-ghost use Rattle.exec_answer_table.specs.Entries.{entry_of, with_entries, Fits};
+ghost use Rattle.exec_answer_table.specs.Entries.{entry_of, with_entries};
 ghost use Rattle.exec_query.specs.Executor.{arrival};
-ghost use Rattle.exec_query.specs.FoundTable.{with_all, with_found, HaveRoom};
-ghost use Rattle.exec_join.specs.Remaining.{as_found};
+ghost use Rattle.exec_query.specs.FoundTable.{with_all, HaveRoom};
 ghost use Rattle.exec_query.specs.CellSteps.{own_found};
 
-use crate::join::MOST_TIMES;
+use crate::executor::clear;
+use crate::join::record_found;
 use exec_answer_table::Answers;
 use exec_filter::{PlainFilter, Prefilter, filter_all_meet, filter_project, stream_of};
 use sem_query::{Query, Row, Tuple};
@@ -20,31 +20,6 @@ fn is_answered(q: &Query, stream: u8, row: &Row) -> bool
     ensures { result ≡ ((stream == slice_index_or q.now.from 0 0) && holds q.now (assignment_of (row.now.items ∷ []))) }
 {
     stream == stream_of(q.from(), 0) && filter_all_meet(row.as_slice(), q.atoms())
-}
-
-// Takes up a tuple that was found once, as `record_found` does. It is inlined, and that one is not.
-#[inline(always)]
-fn record_once(distinct: bool, tuple: &Tuple, table: &mut Answers)
-    requires width { length tuple.now.items ≡ table.old.width }
-    requires room { Fits tuple.now.items table.old }
-    ensures { table.new ≡ with_entries table.old (with_found distinct (as_found tuple.now.items 1) table.old.entries) }
-{
-    if distinct {
-        table.add_new(tuple);
-    } else {
-        table.add_upto(tuple, 1, MOST_TIMES);
-    }
-}
-
-// Leaves nothing in a table. Most often nothing is there, and this is seen at less cost than clearing has.
-#[inline(always)]
-fn leave_none(table: &mut Answers)
-    ensures { table.new ≡ with_entries table.old [] }
-{
-    if table.len() == 0 {
-        return;
-    }
-    table.clear();
 }
 
 // Whether a row meets what a filter asks of rows that pass. Most often nothing is asked, and this is seen at less cost than asking has.
@@ -88,7 +63,7 @@ fn put_answer(
     ensures table { table.new ≡ with_entries table.old (if result then entry_of (map (by_column row.now.items) plain_filter.now.selected.items) 1 ∷ [] else []) }
 {
     if !plain_filter_meets(prefilter, plain_filter, stream, row) {
-        leave_none(table);
+        clear(false, table);
         return false;
     }
     table.set_only(plain_filter.selected.as_slice(), row.as_slice());
@@ -146,5 +121,5 @@ pub fn filter_row(q: &Query, stream: u8, row: &Row, tuple: &mut Tuple, table: &m
         return;
     }
     filter_project(row, q.select(), tuple);
-    record_once(q.distinct(), tuple, table);
+    record_found(q.distinct(), tuple, 1, table);
 }

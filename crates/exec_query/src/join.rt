@@ -18,7 +18,6 @@ ghost use Rattle.exec_join.specs.Remaining.{as_found};
 ghost use Rattle.exec_answer_table.specs.Entries.{with_entries, Fits};
 ghost use Rattle.exec_query.specs.FoundTable.{with_found, with_all, HaveRoom, AreOld};
 ghost use Rattle.exec_query.specs.CellSteps.{arrives, with_row, CanCount};
-ghost use Rattle.exec_point_lookup.specs.Known.{IsDetermined};
 ghost use Rattle.exec_query.specs.Reads.{most_reads};
 ghost use Rattle.exec_part_index.specs.Leaving.{reads_of, LeavesCell};
 
@@ -94,69 +93,8 @@ pub fn record_found(distinct: bool, tuple: &Tuple, count: u128, table: &mut Answ
     }
 }
 
-// Takes up all that a walk over the cells of a part finds for a row.
-fn walk_all<L: Ledger>(
-    pool: &Pool,
-    part: &PartAt<'_>,
-    at: &Admitted<'_>,
-    room: &mut ProbeScratch,
-    tuple: &mut Tuple,
-    table: &mut Answers,
-    steps: &mut Steps<L>,
-)
-    requires here { at.now.pos < length part.now.q.now.from }
-    requires ready { IsReady part.now.q.now part.now.plan.now pool.now part.now.extent.now }
-    requires prepared { IsPrepared (pairs part.now.q.now) part.now.plan.now part.now.prepared.now }
-    requires room { HaveRoom part.now.q.now.distinct (found_beside part.now.q.now part.now.plan.now (read_from (cells_of pool.now part.now.extent.now)) at.now.pos (by_column at.now.row.now.items)) table.old }
-    ensures table { table.new ≡ with_entries table.old (with_all part.now.q.now.distinct (found_beside part.now.q.now part.now.plan.now (read_from (cells_of pool.now part.now.extent.now)) at.now.pos (by_column at.now.row.now.items)) table.old.entries) }
-    ensures reads { steps.new.reads ≤ steps.old.reads + walk_reads part.now.plan.now at.now.pos }
-    ensures writes { steps.new.writes ≡ steps.old.writes }
-{
-    let seen = room.look_along(pool, part, at, steps);
-    if is_nothing(seen) {
-        return;
-    }
-    let (q, plan, prepared) = (part.q, part.plan, part.prepared);
-    let mut probe = Probe::new_behind(q, plan, prepared, at.pos, at.row, room, seen);
-    'walk: while let Some(count) = probe.next(pool, part.extent, q, plan, tuple, steps) {
-        record_found(q.distinct(), tuple, count, table);
-        probe.pass_repeats(q, plan, tuple);
-    }
-}
-
-// Takes up the one tuple that a part can answer to a row: the walk ends at the first find.
-fn answer_once<L: Ledger>(
-    pool: &Pool,
-    part: &PartAt<'_>,
-    at: &Admitted<'_>,
-    room: &mut ProbeScratch,
-    tuple: &mut Tuple,
-    table: &mut Answers,
-    steps: &mut Steps<L>,
-)
-    requires here { at.now.pos < length part.now.q.now.from }
-    requires ready { IsReady part.now.q.now part.now.plan.now pool.now part.now.extent.now }
-    requires prepared { IsPrepared (pairs part.now.q.now) part.now.plan.now part.now.prepared.now }
-    requires room { HaveRoom part.now.q.now.distinct (found_beside part.now.q.now part.now.plan.now (read_from (cells_of pool.now part.now.extent.now)) at.now.pos (by_column at.now.row.now.items)) table.old }
-    requires one { IsDetermined part.now.q.now part.now.plan.now at.now.pos at.now.row.now.items tuple.old.items }
-    ensures table { table.new ≡ with_entries table.old (with_all part.now.q.now.distinct (found_beside part.now.q.now part.now.plan.now (read_from (cells_of pool.now part.now.extent.now)) at.now.pos (by_column at.now.row.now.items)) table.old.entries) }
-    ensures reads { steps.new.reads ≤ steps.old.reads + walk_reads part.now.plan.now at.now.pos }
-    ensures writes { steps.new.writes ≡ steps.old.writes }
-{
-    let seen = room.look_along(pool, part, at, steps);
-    if is_nothing(seen) {
-        return;
-    }
-    let (q, plan, prepared) = (part.q, part.plan, part.prepared);
-    let mut probe = Probe::new_behind(q, plan, prepared, at.pos, at.row, room, seen);
-    match probe.next(pool, part.extent, q, plan, tuple, steps) {
-        Some(count) => record_found(true, tuple, count, table),
-        None => {}
-    }
-}
-
-// Takes up all that a walk over the cells of a part finds for a row, or the first find where there can be no other tuple. It is not
-// inlined: most rows are answered before a walk begins.
+// Takes up all that a walk over the cells of a part finds for a row. Where there can be no other tuple the walk ends at the first find. It is
+// not inlined: most rows are answered before a walk begins.
 #[inline(never)]
 fn walk<L: Ledger>(
     pool: &Pool,
@@ -175,10 +113,22 @@ fn walk<L: Ledger>(
     ensures reads { steps.new.reads ≤ steps.old.reads + walk_reads part.now.plan.now at.now.pos }
     ensures writes { steps.new.writes ≡ steps.old.writes }
 {
-    if determined_tuple(part.q, part.plan, at.pos, at.row, tuple) {
-        answer_once(pool, part, at, room, tuple, table, steps);
-    } else {
-        walk_all(pool, part, at, room, tuple, table, steps);
+    let seen = room.look_along(pool, part, at, steps);
+    if is_nothing(seen) {
+        return;
+    }
+    let (q, plan, prepared) = (part.q, part.plan, part.prepared);
+    let mut probe = Probe::new_behind(q, plan, prepared, at.pos, at.row, room, seen);
+    if determined_tuple(q, plan, at.pos, at.row, tuple) {
+        match probe.next(pool, part.extent, q, plan, tuple, steps) {
+            Some(count) => record_found(true, tuple, count, table),
+            None => {}
+        }
+        return;
+    }
+    'walk: while let Some(count) = probe.next(pool, part.extent, q, plan, tuple, steps) {
+        record_found(q.distinct(), tuple, count, table);
+        probe.pass_repeats(q, plan, tuple);
     }
 }
 
@@ -226,38 +176,6 @@ fn look_then_walk<L: Ledger>(
     }
 }
 
-/// Takes up what one look-up tells of the answers of a part to a row, or what a walk finds where it tells nothing.
-#[inline(always)]
-pub fn look<L: Ledger>(
-    pool: &Pool,
-    part: &PartAt<'_>,
-    at: &Admitted<'_>,
-    room: &mut ProbeScratch,
-    tuple: &mut Tuple,
-    table: &mut Answers,
-    steps: &mut Steps<L>,
-)
-    requires here { at.now.pos < length part.now.q.now.from }
-    requires ready { IsReady part.now.q.now part.now.plan.now pool.now part.now.extent.now }
-    requires prepared { IsPrepared (pairs part.now.q.now) part.now.plan.now part.now.prepared.now }
-    requires room { HaveRoom part.now.q.now.distinct (found_beside part.now.q.now part.now.plan.now (read_from (cells_of pool.now part.now.extent.now)) at.now.pos (by_column at.now.row.now.items)) table.old }
-    ensures table { table.new ≡ with_entries table.old (with_all part.now.q.now.distinct (found_beside part.now.q.now part.now.plan.now (read_from (cells_of pool.now part.now.extent.now)) at.now.pos (by_column at.now.row.now.items)) table.old.entries) }
-    ensures reads { steps.new.reads ≤ steps.old.reads + most_reads part.now.plan.now }
-    ensures writes { steps.new.writes ≡ steps.old.writes }
-{
-    match first_look(pool, part, at, tuple, steps) {
-        FirstLook::Nothing => {}
-        FirstLook::One(count) => {
-            record_found(part.q.distinct(), tuple, u128::from(count), table)
-        }
-        FirstLook::Unknown => {
-            // Copies of its own for the call that is not inlined, so that the others stay in registers.
-            let (met, row) = (*part, *at);
-            look_then_walk(pool, &met, &row, room, tuple, table, steps);
-        }
-    }
-}
-
 // Takes up all that the cells of a part answer to a row: by one look-up where it is listed how the row finds the one cell that can
 // answer with it, else by a walk.
 #[inline(always)]
@@ -278,10 +196,12 @@ fn answer<L: Ledger>(
     ensures writes { steps.new.writes ≡ steps.old.writes }
 {
     let (room, tuple) = (&mut scratch.room, &mut scratch.tuple);
-    if part.prepared.join_lookup(at.pos).is_some() {
-        look(pool, part, at, room, tuple, table, steps);
-    } else {
-        look_then_walk(pool, part, at, room, tuple, table, steps);
+    match first_look(pool, part, at, tuple, steps) {
+        FirstLook::Nothing => {}
+        FirstLook::One(count) => {
+            record_found(part.q.distinct(), tuple, u128::from(count), table)
+        }
+        FirstLook::Unknown => look_then_walk(pool, part, at, room, tuple, table, steps),
     }
 }
 

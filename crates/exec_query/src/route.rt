@@ -15,24 +15,14 @@ ghost use Rattle.exec_part_index.specs.Prepared.{IsPreparedPlan};
 ghost use Rattle.exec_part_index.specs.Shifts.{StandsAt};
 
 use crate::join::{Scratch, Takes, apply_to_part};
+use crate::row::{PlanAt, RowView};
 use exec_answer_table::Answers;
 use exec_part_index::{CellAt, CodedRow, Led, PartIndex, PreparedPlan, Reached, reach};
-use exec_pool::{Extent, Pool, Steps};
+use exec_pool::{Pool, Steps};
 use exec_ranges::PartAt;
 use exec_synopsis::{Admitted, OwnCell, Placement};
-use sem_query::{PartPlans, Query, Row};
+use sem_query::PartPlans;
 use std::sync::ledger::Ledger;
-
-/// The parts of a query, what they are asked of every row, the extent of the cells, and whether it is known that a row which leaves its
-/// cell as it is is answered nothing new.
-#[derive(Clone, Copy)]
-pub struct PartsAt<'a> {
-    pub q: &'a Query,
-    pub parts: &'a PartPlans,
-    pub prepared: &'a PreparedPlan,
-    pub extent: &'a Extent,
-    pub known: bool,
-}
 
 // Whether what is known of the cells before a row is known of a part's own cell: the part takes rows into a box of its own, or no cell
 // changed since.
@@ -150,40 +140,41 @@ fn apply_along<L: Ledger>(
 /// changed.
 pub fn apply_to_parts<L: Ledger>(
     pool: &mut Pool,
-    all: &PartsAt<'_>,
-    pos: u8,
-    row: &Row,
+    query: &PlanAt<'_>,
+    parts: &PartPlans,
+    at: &RowView<'_>,
     scratch: &mut Scratch,
     table: &mut Answers,
     steps: &mut Steps<L>,
 )
-    requires here { pos < length all.now.q.now.from }
-    requires ready { AreReady all.now.q.now all.now.parts.now pool.old all.now.extent.now }
-    requires prepared { IsPreparedPlan all.now.q.now all.now.parts.now all.now.prepared.now }
-    requires known { all.now.known ≡ true → AnswersNothingNew all.now.q.now all.now.parts.now (read_from (cells_of pool.old all.now.extent.now)) table.old.entries }
-    requires room { HaveRoom all.now.q.now.distinct (all_found all.now.q.now all.now.parts.now (read_from (cells_of pool.old all.now.extent.now)) (arrives all.now.q.now pos row.now.items)) table.old }
-    ensures table { table.new ≡ with_entries table.old (with_all all.now.q.now.distinct (all_found all.now.q.now all.now.parts.now (read_from (cells_of pool.old all.now.extent.now)) (arrives all.now.q.now pos row.now.items)) table.old.entries) }
-    ensures pool { HasTaken all.now.q.now all.now.parts.now all.now.extent.now (arrives all.now.q.now pos row.now.items) (length all.now.parts.now) pool.old pool.new }
-    ensures reads { steps.new.reads ≤ steps.old.reads + row_reads all.now.parts.now + length all.now.parts.now }
-    ensures writes { steps.new.writes ≤ steps.old.writes + length all.now.parts.now }
+    requires here { at.now.pos < length query.now.q.now.from }
+    requires ready { AreReady query.now.q.now parts.now pool.old query.now.extent.now }
+    requires prepared { IsPreparedPlan query.now.q.now parts.now query.now.prepared.now }
+    requires known { query.now.known ≡ true → AnswersNothingNew query.now.q.now parts.now (read_from (cells_of pool.old query.now.extent.now)) table.old.entries }
+    requires room { HaveRoom query.now.q.now.distinct (all_found query.now.q.now parts.now (read_from (cells_of pool.old query.now.extent.now)) (arrives query.now.q.now at.now.pos at.now.row.now.items)) table.old }
+    ensures table { table.new ≡ with_entries table.old (with_all query.now.q.now.distinct (all_found query.now.q.now parts.now (read_from (cells_of pool.old query.now.extent.now)) (arrives query.now.q.now at.now.pos at.now.row.now.items)) table.old.entries) }
+    ensures pool { HasTaken query.now.q.now parts.now query.now.extent.now (arrives query.now.q.now at.now.pos at.now.row.now.items) (length parts.now) pool.old pool.new }
+    ensures reads { steps.new.reads ≤ steps.old.reads + row_reads parts.now + length parts.now }
+    ensures writes { steps.new.writes ≤ steps.old.writes + length parts.now }
 {
-    let part_index = all.prepared.part_index(all.q, all.parts, pos);
-    let each = part_index.each_owns(all.q, all.parts, pos);
-    let hit = part_index.first(all.q, all.parts, pos, row);
+    let (q, pos) = (query.q, at.pos);
+    let part_index = query.prepared.part_index(q, parts, pos);
+    let each = part_index.each_owns(q, parts, pos);
+    let hit = part_index.first(q, parts, pos, at.row);
     let coded = CodedRow {
-        q: all.q,
-        parts: all.parts,
+        q,
+        parts,
         pos,
-        row,
+        row: at.row,
         code: hit.code,
     };
     let led = Led {
         coded,
         part_index,
         each,
-        prepared: all.prepared,
-        extent: all.extent,
-        known: all.known,
+        prepared: query.prepared,
+        extent: query.extent,
+        known: query.known,
     };
     apply_along(pool, &led, hit.first, scratch, table, steps)
 }

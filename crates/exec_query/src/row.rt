@@ -16,7 +16,7 @@ ghost use Rattle.exec_part_index.specs.Prepared.{IsPreparedPlan};
 
 use crate::filter::filter_row;
 use crate::join::Scratch;
-use crate::route::{PartsAt, apply_to_parts};
+use crate::route::apply_to_parts;
 use crate::two_cells::meet_cells;
 use exec_answer_table::Answers;
 use exec_part_index::PreparedPlan;
@@ -25,10 +25,10 @@ use exec_pool::{Extent, Pool, Steps};
 use sem_query::{Cell, Plan, Query, Row};
 use std::sync::ledger::Ledger;
 
-/// A query: its plan, what its parts are asked of every row, the extent of the cells, and whether it is known that a row which leaves its cell
-/// as it is is answered nothing new.
+/// A query as a row meets it: its plan, what its parts are asked of every row, the extent of the cells, and whether it is known that a row which
+/// leaves its cell as it is is answered nothing new.
 #[derive(Clone, Copy)]
-pub struct QueryAt<'a> {
+pub struct PlanAt<'a> {
     pub q: &'a Query,
     pub plan: &'a Plan,
     pub prepared: &'a PreparedPlan,
@@ -36,10 +36,10 @@ pub struct QueryAt<'a> {
     pub known: bool,
 }
 
-/// A row, and its stream.
+/// A row that arrives at a place of FROM.
 #[derive(Clone, Copy)]
-pub struct Arrived<'a> {
-    pub stream: u8,
+pub struct RowView<'a> {
+    pub pos: u8,
     pub row: &'a Row,
 }
 
@@ -65,33 +65,25 @@ fn place_of(from: &[u8], stream: u8) -> Option<u8>
 #[inline(always)]
 pub fn meet_by_cells<L: Ledger>(
     pool: &mut Pool,
-    query: &QueryAt<'_>,
+    query: &PlanAt<'_>,
     direct: &DirectLookup,
-    arrived: &Arrived<'_>,
+    stream: u8,
+    row: &Row,
     steps: &mut Steps<L>,
 ) -> Cell
     requires direct { IsDirect query.now.q.now (parts_of query.now.plan.now) direct.now }
-    requires stream { direct.now.stream ≡ arrived.now.stream }
+    requires stream { direct.now.stream ≡ stream }
     requires ready { IsPlanReady query.now.q.now query.now.plan.now pool.old query.now.extent.now }
-    ensures answers { answered_by query.now.q.now query.now.plan.now (read_from (cells_of pool.old query.now.extent.now)) (arrival arrived.now.stream arrived.now.row.now.items) ≡ told_by direct.now arrived.now.row.now.items result }
-    ensures pool { HasTaken query.now.q.now (parts_of query.now.plan.now) query.now.extent.now (arrival arrived.now.stream arrived.now.row.now.items) (length (parts_of query.now.plan.now)) pool.old pool.new }
+    ensures answers { answered_by query.now.q.now query.now.plan.now (read_from (cells_of pool.old query.now.extent.now)) (arrival stream row.now.items) ≡ told_by direct.now row.now.items result }
+    ensures pool { HasTaken query.now.q.now (parts_of query.now.plan.now) query.now.extent.now (arrival stream row.now.items) (length (parts_of query.now.plan.now)) pool.old pool.new }
     ensures reads { steps.new.reads ≤ steps.old.reads + row_reads (parts_of query.now.plan.now) + length (parts_of query.now.plan.now) }
     ensures writes { steps.new.writes ≤ steps.old.writes + length (parts_of query.now.plan.now) }
     ensures alone { query.now.plan.now ≡ plans.Filter → steps.new ≡ steps.old }
-    ensures outside { list_any (λ s. arrived.now.stream == s) query.now.q.now.from ≡ false → steps.new ≡ steps.old }
+    ensures outside { list_any (λ s. stream == s) query.now.q.now.from ≡ false → steps.new ≡ steps.old }
 {
     match query.plan {
         Plan::Filter => Cell::Empty,
-        Plan::Parts { parts, .. } => {
-            let all = PartsAt {
-                q: query.q,
-                parts,
-                prepared: query.prepared,
-                extent: query.extent,
-                known: query.known,
-            };
-            meet_cells(pool, &all, direct, arrived.row, steps)
-        }
+        Plan::Parts { parts, .. } => meet_cells(pool, query, parts, direct, row, steps),
     }
 }
 
@@ -99,8 +91,9 @@ pub fn meet_by_cells<L: Ledger>(
 /// no cells, and a row of a stream outside FROM does nothing.
 pub fn apply_row<L: Ledger>(
     pool: &mut Pool,
-    query: &QueryAt<'_>,
-    arrived: &Arrived<'_>,
+    query: &PlanAt<'_>,
+    stream: u8,
+    row: &Row,
     scratch: &mut Scratch,
     table: &mut Answers,
     steps: &mut Steps<L>,
@@ -108,27 +101,21 @@ pub fn apply_row<L: Ledger>(
     requires ready { IsPlanReady query.now.q.now query.now.plan.now pool.old query.now.extent.now }
     requires prepared { IsPreparedPlan query.now.q.now (parts_of query.now.plan.now) query.now.prepared.now }
     requires known { query.now.known ≡ true → AnswersNothingNew query.now.q.now (parts_of query.now.plan.now) (read_from (cells_of pool.old query.now.extent.now)) table.old.entries }
-    requires room { HaveRoom query.now.q.now.distinct (answered_by query.now.q.now query.now.plan.now (read_from (cells_of pool.old query.now.extent.now)) (arrival arrived.now.stream arrived.now.row.now.items)) table.old }
-    ensures table { table.new ≡ with_entries table.old (with_all query.now.q.now.distinct (answered_by query.now.q.now query.now.plan.now (read_from (cells_of pool.old query.now.extent.now)) (arrival arrived.now.stream arrived.now.row.now.items)) table.old.entries) }
-    ensures pool { HasTaken query.now.q.now (parts_of query.now.plan.now) query.now.extent.now (arrival arrived.now.stream arrived.now.row.now.items) (length (parts_of query.now.plan.now)) pool.old pool.new }
+    requires room { HaveRoom query.now.q.now.distinct (answered_by query.now.q.now query.now.plan.now (read_from (cells_of pool.old query.now.extent.now)) (arrival stream row.now.items)) table.old }
+    ensures table { table.new ≡ with_entries table.old (with_all query.now.q.now.distinct (answered_by query.now.q.now query.now.plan.now (read_from (cells_of pool.old query.now.extent.now)) (arrival stream row.now.items)) table.old.entries) }
+    ensures pool { HasTaken query.now.q.now (parts_of query.now.plan.now) query.now.extent.now (arrival stream row.now.items) (length (parts_of query.now.plan.now)) pool.old pool.new }
     ensures reads { steps.new.reads ≤ steps.old.reads + row_reads (parts_of query.now.plan.now) + length (parts_of query.now.plan.now) }
     ensures writes { steps.new.writes ≤ steps.old.writes + length (parts_of query.now.plan.now) }
     ensures alone { query.now.plan.now ≡ plans.Filter → steps.new ≡ steps.old }
-    ensures outside { list_any (λ s. arrived.now.stream == s) query.now.q.now.from ≡ false → steps.new ≡ steps.old }
+    ensures outside { list_any (λ s. stream == s) query.now.q.now.from ≡ false → steps.new ≡ steps.old }
 {
     let q = query.q;
     match query.plan {
-        Plan::Filter => filter_row(q, arrived.stream, arrived.row, &mut scratch.tuple, table),
-        Plan::Parts { parts, .. } => match place_of(q.from(), arrived.stream) {
+        Plan::Filter => filter_row(q, stream, row, &mut scratch.tuple, table),
+        Plan::Parts { parts, .. } => match place_of(q.from(), stream) {
             Some(pos) => {
-                let all = PartsAt {
-                    q,
-                    parts,
-                    prepared: query.prepared,
-                    extent: query.extent,
-                    known: query.known,
-                };
-                apply_to_parts(pool, &all, pos, arrived.row, scratch, table, steps);
+                let arrived = RowView { pos, row };
+                apply_to_parts(pool, query, parts, &arrived, scratch, table, steps);
             }
             None => {}
         },

@@ -1,5 +1,6 @@
 //! What a row does in a query of one part where one column tells the two cells that it meets.
 ghost use Rattle.std.specs.Prelude.{◌≡◌, [], ◌<◌, ◌≤◌, ◌+◌, ◌*◌, length, map, true, false, Some};
+ghost use Rattle.sem_query.specs.declared.cell.Cell.TheVariants as cells;
 ghost use Rattle.sem_query.specs.Meaning.{by_column};
 ghost use Rattle.sem_query.specs.Combinations.{read_from};
 ghost use Rattle.exec_pool.specs.Extents.{cells_of};
@@ -15,13 +16,13 @@ ghost use Rattle.exec_point_lookup.specs.Direct.{IsDirect};
 
 use crate::executor::clear;
 use crate::join::{MOST_TIMES, record_found};
-use crate::route::PartsAt;
+use crate::row::PlanAt;
 use exec_answer_table::Answers;
 use exec_point_lookup::{DirectLookup, offset_in, put_selected};
 use exec_pool::{Pool, Steps};
 use exec_ranges::{is_empty, rows_in};
 use exec_synopsis::{Admitted, Placement, own_cell, put_own};
-use sem_query::{Cell, Kind, Query, Row, Tuple};
+use sem_query::{Cell, Kind, PartPlans, Query, Row, Tuple};
 use std::sync::ledger::Ledger;
 
 // Takes up the values of these columns of a row with DISTINCT. It is not inlined: most such queries have no DISTINCT.
@@ -58,26 +59,7 @@ fn take_up(
     }
 }
 
-// Takes up what the other cell tells of the answers to a row.
-#[inline(always)]
-fn answer_by_cell(
-    q: &Query,
-    direct: &DirectLookup,
-    row: &Row,
-    cell: Cell,
-    tuple: &mut Tuple,
-    table: &mut Answers,
-)
-    requires { HaveRoom q.now.distinct (told_by direct.now row.now.items cell) table.old }
-    ensures { table.new ≡ with_entries table.old (with_all q.now.distinct (told_by direct.now row.now.items cell) table.old.entries) }
-{
-    if is_empty(cell) {
-        return;
-    }
-    take_up(q, direct, row, cell, tuple, table);
-}
-
-// Gives up what waited, and takes up what the other cell tells. It is not inlined: most rows meet an empty cell.
+// Gives up what waited, and takes up what the other cell tells, which has rows. It is not inlined: most rows meet an empty cell.
 #[inline(never)]
 fn take_up_anew(
     q: &Query,
@@ -87,31 +69,12 @@ fn take_up_anew(
     tuple: &mut Tuple,
     table: &mut Answers,
 )
-    requires { HaveRoom q.now.distinct (told_by direct.now row.now.items cell) (with_entries table.old (cleared q.now.distinct table.old.entries)) }
+    requires some { cell ≡ cells.Empty → ⊥ }
+    requires room { HaveRoom q.now.distinct (told_by direct.now row.now.items cell) (with_entries table.old (cleared q.now.distinct table.old.entries)) }
     ensures { table.new ≡ with_entries table.old (with_all q.now.distinct (told_by direct.now row.now.items cell) (cleared q.now.distinct table.old.entries)) }
 {
     clear(q.distinct(), table);
-    answer_by_cell(q, direct, row, cell, tuple, table);
-}
-
-// Gives up what waited. It is not inlined, so that a row before which nothing waited pays nothing for it.
-#[cold]
-#[inline(never)]
-fn give_up(q: &Query, table: &mut Answers)
-    ensures { table.new ≡ with_entries table.old (cleared q.now.distinct table.old.entries) }
-{
-    clear(q.distinct(), table);
-}
-
-// Gives up what waited, where there is anything.
-#[inline(always)]
-fn give_up_listed(q: &Query, table: &mut Answers)
-    ensures { table.new ≡ with_entries table.old (cleared q.now.distinct table.old.entries) }
-{
-    if table.len() == 0 {
-        return;
-    }
-    give_up(q, table);
+    take_up(q, direct, row, cell, tuple, table);
 }
 
 /// Gives up what waited, takes up what the other cell tells of the answers to a row, and returns whether any may wait.
@@ -129,7 +92,7 @@ pub fn answer_anew(
     ensures none { result ≡ false → spelled table.new.entries ≡ [] }
 {
     if is_empty(cell) {
-        give_up_listed(q, table);
+        clear(q.distinct(), table);
         return false;
     }
     take_up_anew(q, direct, row, cell, tuple, table);
@@ -141,20 +104,21 @@ pub fn answer_anew(
 #[inline(always)]
 pub fn meet_cells<L: Ledger>(
     pool: &mut Pool,
-    all: &PartsAt<'_>,
+    query: &PlanAt<'_>,
+    parts: &PartPlans,
     direct: &DirectLookup,
     row: &Row,
     steps: &mut Steps<L>,
 ) -> Cell
-    requires direct { IsDirect all.now.q.now all.now.parts.now direct.now }
-    requires ready { AreReady all.now.q.now all.now.parts.now pool.old all.now.extent.now }
-    ensures answers { all_found all.now.q.now all.now.parts.now (read_from (cells_of pool.old all.now.extent.now)) (arrives all.now.q.now direct.now.pos row.now.items) ≡ told_by direct.now row.now.items result }
-    ensures pool { HasTaken all.now.q.now all.now.parts.now all.now.extent.now (arrives all.now.q.now direct.now.pos row.now.items) (length all.now.parts.now) pool.old pool.new }
-    ensures reads { steps.new.reads ≤ steps.old.reads + row_reads all.now.parts.now + length all.now.parts.now }
-    ensures writes { steps.new.writes ≤ steps.old.writes + length all.now.parts.now }
+    requires direct { IsDirect query.now.q.now parts.now direct.now }
+    requires ready { AreReady query.now.q.now parts.now pool.old query.now.extent.now }
+    ensures answers { all_found query.now.q.now parts.now (read_from (cells_of pool.old query.now.extent.now)) (arrives query.now.q.now direct.now.pos row.now.items) ≡ told_by direct.now row.now.items result }
+    ensures pool { HasTaken query.now.q.now parts.now query.now.extent.now (arrives query.now.q.now direct.now.pos row.now.items) (length parts.now) pool.old pool.new }
+    ensures reads { steps.new.reads ≤ steps.old.reads + row_reads parts.now + length parts.now }
+    ensures writes { steps.new.writes ≤ steps.old.writes + length parts.now }
 {
-    let (q, extent) = (all.q, all.extent);
-    let plan = all.parts.get(0);
+    let (q, extent) = (query.q, query.extent);
+    let plan = parts.get(0);
     let values = row.as_slice();
     let Some(offset) = offset_in(direct.range, values) else {
         return Cell::Empty;

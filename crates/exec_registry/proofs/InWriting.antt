@@ -1,5 +1,5 @@
 -- The live queries are written one after the other.
-use Rattle.std.proofs.Common.{◌≡◌, ℕ, suc, ◌<◌, inl, inr, List, [], ◌∷◌, ◌++◌, length, take, drop, take-append-drop, append-nil, refl, sym, ap, ◌∙◌, subst, arith, slice_index_or, slice_set}
+use Rattle.std.proofs.Common.{◌≡◌, ℕ, suc, ◌+◌, ◌<◌, inl, inr, List, [], ◌∷◌, ◌++◌, length, take, drop, take-append-drop, append-nil, refl, sym, ap, ◌∙◌, subst, arith, slice_index_or, slice_set}
 use Rattle.std.proofs.lemmas.Bool.{cases_eq}
 use Rattle.std.proofs.lemmas.List.{length-set, get_or-set_same, get_or-set_other, get_or_default}
 use Rattle.std.specs.Prelude.{⊤}
@@ -12,7 +12,11 @@ use Rattle.io_streams.specs.Sink.{SinkState, Writes, Wrote, BrokeOff}
 use Rattle.io_streams.proofs.Writing.{BrokeOff-stop}
 use Rattle.exec_answer_lines.specs.Gathering.{Gathered}
 use Rattle.exec_answer_lines.proofs.Gathering.{gathered_more, gathered_broke, gathered_alone, gathered_written}
-use Rattle.exec_registry.specs.Live.{Live}
+use Rattle.exec_answer_table.specs.Entries.{settled}
+use Rattle.exec_query.specs.Executor.{ExecutorValue, with_given}
+use Rattle.exec_registry.specs.declared.queries.Runner.{Runner}
+use Rattle.exec_registry.specs.Counted.{run_to}
+use Rattle.exec_registry.specs.Live.{Live, named}
 use Rattle.exec_registry.specs.Registry.{waiting_text}
 use Rattle.exec_registry.specs.Written.{WroteOne, WroteFirst, WritesNext, GathersNext, GatheredSo}
 
@@ -69,3 +73,14 @@ pub gathered_none_left : {E : Type 0} (result : Result ⊤ E) (a c : SinkState) 
     → GatheredSo result a c now front text → Writes result a c text
 gathered_none_left {E} (Ok x) a c now front text none e so = subst (Wrote a c) e (gathered_alone {E = E} (Ok x) a c front (subst (λ (t : List ℕ). Gathered a c [] t front) none so))
 gathered_none_left (Err x) a c now front text none e so = so
+
+-- a live query of which so many rows were counted was written or given up
+pub wrote_counted : (rows : ℕ) (name : List ℕ) (before after : Runner) (e : ExecutorValue) → e ≡ run_to rows before → after.before ≡ before.before
+    → after.executor ≡ with_given e e.given (settled e.table.entries) → WroteOne (named name e) (named name after.executor)
+    → WroteOne (named name (run_to rows before)) (named name (run_to rows after))
+wrote_counted rows name before after e is counted same one =
+    let given : after.executor.given ≡ after.before + rows
+    = (let a = ap (λ (x : ExecutorValue). x.given) same in let b = ap (λ (x : ExecutorValue). x.given) is in omega (arith, a, b, counted)) in
+    let later : after.executor ≡ run_to rows after = ap (λ n. with_given after.executor n after.executor.table.entries) given in
+    subst (λ (x : ExecutorValue). WroteOne (named name (run_to rows before)) (named name x)) later
+    (subst (λ (x : ExecutorValue). WroteOne (named name x) (named name after.executor)) is one)

@@ -259,20 +259,6 @@ impl Registry {
         if self.waiting == 0 {
             return Ok(());
         }
-        self.write_waiting(out)
-    }
-
-    // The same, whether something waits or not. It is not inlined, so that a row of which nothing waits pays nothing for it.
-    #[cold]
-    #[inline(never)]
-    fn write_waiting<O: Sink>(&mut self, out: &mut O) -> Result<(), WriteFault>
-        ensures written { Writes result (O.seen out.old) (O.seen out.new) (flat_map waiting_text self.old.live) }
-        ensures quiet { IsQuiet self.new }
-        ensures stands { (queries : List LiveQuery) → StandsFor self.old queries → StandsFor self.new queries }
-        ensures given { (n : ℕ) → GivenUpto n self.old → GivenUpto n self.new }
-        ensures queries { KeepQueries self.old.live self.new.live }
-        ensures pages { self.new.pool.pages ≡ self.old.pool.pages }
-    {
         let waiting = self.waiting;
         self.waiting = 0;
         write_all(&mut self.live, waiting, &mut self.lines, out)

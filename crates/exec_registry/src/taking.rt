@@ -12,36 +12,13 @@ ghost use Rattle.exec_registry.specs.Waiting.{AreQuiet};
 use crate::queries::{Queries, Runner};
 use crate::waiting::noted;
 use exec_pool::{Pool, Steps};
-use exec_query::{Executor, RowHint};
+use exec_query::RowHint;
 use exec_query_index::{Concerns, has_bit, lowest_bit, without_bit};
 use sem_query::Row;
 use std::sync::ledger::Ledger;
 
-// Gives a row to what runs a live query, whatever its name. What is said of it decides on the time alone.
-#[inline(always)]
-#[tactic(auto, using(crate::proofs::InTurn::took_one))]
-fn apply_to_one<L: Ledger>(
-    pool: &mut Pool,
-    executor: &mut Executor,
-    hint: RowHint,
-    stream: u8,
-    row: &Row,
-    steps: &mut Steps<L>,
-) -> bool
-    requires ready { IsReady executor.old pool.old }
-    requires keeps { RowKeeps executor.old.query (arrival stream row.now.items) }
-    ensures none { result ≡ false → waiting_in executor.new ≡ [] }
-    ensures taken { (name : List ℕ) → TookOne (arrival stream row.now.items) pool.old pool.new (named name executor.old) (named name executor.new) }
-    ensures reads { steps.new.reads ≤ steps.old.reads + plan_reads executor.old.plan }
-    ensures writes { steps.new.writes ≤ steps.old.writes + plan_writes executor.old.plan }
-{
-    let waits = executor.apply(hint, pool, stream, row, steps);
-    // Read for the proof alone: the call tells what is true of what runs the query.
-    let _sound = executor.plan();
-    waits
-}
-
-// Gives a row to what runs a live query, of which so many rows were counted.
+// Gives a row to what runs a live query, of which so many rows were counted, whatever its name. What is said of the row decides on the time
+// alone.
 #[inline(always)]
 fn take_next<L: Ledger>(
     pool: &mut Pool,
@@ -62,7 +39,10 @@ fn take_next<L: Ledger>(
     ensures writes { steps.new.writes ≤ steps.old.writes + plan_writes runner.old.executor.plan }
 {
     runner.catch_up(rows);
-    apply_to_one(pool, &mut runner.executor, hint, stream, row, steps)
+    let waits = runner.executor.apply(hint, pool, stream, row, steps);
+    // Read for the proof alone: the call tells what is true of what runs the query.
+    let _sound = runner.executor.plan();
+    waits
 }
 
 // The number of rows with one more. Where no query is live it is of no account, and may be too large.
@@ -137,21 +117,6 @@ pub(crate) fn only_bit(word: u64) -> Option<usize>
     Some(place)
 }
 
-// Counts a row for all live queries, none of which it concerns.
-#[inline(always)]
-fn apply_to_none(pool: &Pool, live: &mut Queries, word: u64, stream: u8, row: &Row) -> u64
-    requires none { word ≡ 0 }
-    requires sound { IsSound pool.now live.old }
-    requires few { All (λ l. l.executor.given < 2 ^ 40) live.old }
-    requires keeps { KeepsToEach live.old (arrival stream row.now.items) }
-    requires spared { AreSpared word (arrival stream row.now.items) live.old }
-    ensures taken { TookFirst (arrival stream row.now.items) (length live.old) pool.now pool.now live.old live.new }
-    ensures waiting { AreQuiet result live.new }
-{
-    live.rows = one_more(live.rows);
-    0
-}
-
 // Gives a row to the live query at a place, the only one that a word has, and counts it for all others.
 #[inline(always)]
 fn apply_to_only<L: Ledger>(
@@ -205,7 +170,8 @@ pub fn apply_to_all<L: Ledger>(
     ensures writes { steps.new.writes ≤ steps.old.writes + most_writes live.old }
 {
     if asked.word == 0 {
-        return apply_to_none(pool, live, asked.word, stream, row);
+        live.rows = one_more(live.rows);
+        return 0;
     }
     match only_bit(asked.word) {
         Some(place) => apply_to_only(pool, live, asked, place, stream, row, steps),

@@ -3,12 +3,12 @@ ghost use Rattle.std.specs.Prelude.{◌≡◌, ◌≤◌, Bool, IsFalse, IsTrue}
 ghost use Rattle.sem_query.specs.Query.{is_filter};
 ghost use Rattle.sem_query.specs.Numbers.{pages_of, page_count};
 ghost use Rattle.sem_query.specs.Verdict.{most};
-ghost use Rattle.sem_forms.specs.Forms.{HasWholeForm, IsWithin};
-ghost use Rattle.plan_forms.specs.Planned.{IsPartsPlan};
+ghost use Rattle.sem_forms.specs.Forms.{IsWithin};
+ghost use Rattle.plan_forms.specs.Planned.{IsFormAnswer};
 ghost use Rattle.exec_registry.specs.Judged.{IsJudged, verdict_of};
 
 use crate::refusal::CreateError;
-use plan_forms::{PartsRefusal, parts_plan, whole_form};
+use plan_forms::{PartsRefusal, form_plan};
 use sem_query::{Numbers, Plan, Query, Which};
 use std::alloc::Global;
 
@@ -36,18 +36,17 @@ fn most(which: Which) -> u64
     }
 }
 
-// The plan of a query by its parts, with shared cells or without. It stands apart so that a flag that is lost meets its clause.
+// The plan of a query that is no filter, with shared cells or without. It stands apart so that a flag that is lost meets its clause.
 fn plan_of(alloc: Global, query: &Query, shared: bool) -> Result<Plan, PartsRefusal>
     requires { IsFalse (is_filter query.now) }
-    ensures { IsPartsPlan shared query.now result }
+    ensures { IsFormAnswer shared query.now result }
 {
-    parts_plan(alloc, query, shared)
+    form_plan(alloc, query, shared)
 }
 
-// The verdict on a query that has no whole form that fits, by its parts.
-fn judge_parts(alloc: Global, query: &Query, shared: bool) -> Result<Plan, CreateError>
-    requires plain { IsFalse (is_filter query.now) }
-    requires split { ¬ HasWholeForm query.now }
+// The verdict on a query that is no filter.
+fn judge_form(alloc: Global, query: &Query, shared: bool) -> Result<Plan, CreateError>
+    requires { IsFalse (is_filter query.now) }
     ensures { IsJudged shared query.now result }
 {
     match plan_of(alloc, query, shared) {
@@ -97,11 +96,7 @@ pub fn judge(alloc: Global, query: &Query, shared: bool) -> Result<Plan, CreateE
     if query.is_filter() {
         return judge_filter(query);
     }
-    match whole_form(alloc, query) {
-        Ok(Some(plan)) => Ok(plan),
-        Ok(None) => judge_parts(alloc, query, shared),
-        Err(_) => Err(CreateError::Memory),
-    }
+    judge_form(alloc, query, shared)
 }
 
 /// Returns how a query with this plan runs.

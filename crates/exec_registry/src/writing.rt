@@ -1,5 +1,5 @@
 //! Writing what waits of the live queries.
-ghost use Rattle.std.specs.Prelude.{◌≡◌, ◌<◌, List, ℕ, [], true, length, slice_index_or};
+ghost use Rattle.std.specs.Prelude.{◌≡◌, ◌<◌, [], true, length, slice_index_or};
 ghost use Rattle.std.specs.List.{flat_map};
 ghost use Rattle.io_streams.specs.Sink.{Writes};
 ghost use Rattle.exec_answer_lines.specs.Gathering.{Gathers};
@@ -12,62 +12,14 @@ ghost use Rattle.exec_registry.specs.Waiting.{AreQuiet};
 use crate::queries::{Queries, Runner, name_at};
 use crate::taking::only_bit;
 use exec_answer_lines::AnswerLines;
-use exec_query::Executor;
 use exec_query_index::{lowest_bit, without_bit};
 use io_streams::{Sink, WriteFault};
 use sql_text::Name;
 
-// Gathers what waits of a live query, behind what is gathered. Where it is alone and nothing is gathered, it is written.
-#[inline(always)]
-fn put_one<O: Sink>(
-    is_alone: bool,
-    name: &Name,
-    executor: &mut Executor,
-    lines: &mut AnswerLines,
-    out: &mut O,
-) -> Result<(), WriteFault>
-    requires { is_alone ≡ true → lines.old ≡ [] }
-    ensures gathered { Gathers result (O.seen out.old) (O.seen out.new) lines.old lines.new (waiting_text (named name.now executor.old)) }
-    ensures written { is_alone ≡ true → lines.new ≡ [] }
-    ensures wrote { WroteOne (named name.now executor.old) (named name.now executor.new) }
-{
-    executor.emit(is_alone, name, lines, out)
-}
-
-// Gives up what waits of a live query, whatever its name.
-fn give_up_one(executor: &mut Executor)
-    ensures { (name : List ℕ) → WroteOne (named name executor.old) (named name executor.new) }
-{
-    executor.give_up();
-}
-
-// Gathers what waits of a live query, or gives it up where the sink failed before.
+// Gathers what waits of a live query, of which so many rows were counted, behind what is gathered, or gives it up where the sink failed before.
+// Where it is alone and nothing is gathered, it is written.
 #[inline(always)]
 fn put_next<O: Sink>(
-    gathered: Result<(), WriteFault>,
-    is_alone: bool,
-    name: &Name,
-    executor: &mut Executor,
-    lines: &mut AnswerLines,
-    out: &mut O,
-) -> Result<(), WriteFault>
-    requires { is_alone ≡ true → lines.old ≡ [] }
-    ensures gathered { GathersNext gathered result (O.seen out.old) (O.seen out.new) lines.old lines.new (waiting_text (named name.now executor.old)) }
-    ensures written { is_alone ≡ true → lines.new ≡ [] }
-    ensures wrote { WroteOne (named name.now executor.old) (named name.now executor.new) }
-{
-    match gathered {
-        Ok(()) => put_one(is_alone, name, executor, lines, out),
-        Err(fault) => {
-            give_up_one(executor);
-            Err(fault)
-        }
-    }
-}
-
-// The same of a live query of which so many rows were counted.
-#[inline(always)]
-fn put_behind<O: Sink>(
     gathered: Result<(), WriteFault>,
     is_alone: bool,
     name: &Name,
@@ -84,7 +36,13 @@ fn put_behind<O: Sink>(
     ensures counted { IsCounted rows runner.new }
 {
     runner.catch_up(rows);
-    put_next(gathered, is_alone, name, &mut runner.executor, lines, out)
+    match gathered {
+        Ok(()) => runner.executor.emit(is_alone, name, lines, out),
+        Err(fault) => {
+            runner.executor.give_up();
+            Err(fault)
+        }
+    }
 }
 
 // Gathers what waits of the live query at a place, or gives it up where the sink failed before.
@@ -106,7 +64,7 @@ fn put_at<O: Sink>(
     let name = name_at(&live.names, place);
     let rows = live.rows;
     let runner = &mut live.runners[place];
-    put_behind(gathered, is_alone, name, runner, rows, lines, out)
+    put_next(gathered, is_alone, name, runner, rows, lines, out)
 }
 
 // Writes what is gathered, or fails where the sink failed before.
@@ -150,8 +108,9 @@ fn write_each<O: Sink>(
 }
 
 /// Writes what waits of each live query, in order of creation, where nothing waits of those that a word has not. Where the sink fails,
-/// what is left is given up. The lines are room to work in.
-#[inline(always)]
+/// what is left is given up. The lines are room to work in. It is not inlined, so that a row of which nothing waits pays nothing for it.
+#[cold]
+#[inline(never)]
 pub fn write_all<O: Sink>(
     live: &mut Queries,
     word: u64,

@@ -7,8 +7,6 @@ use Rattle.sem_query.specs.declared.atom.Attr.{Attr}
 use Rattle.sem_query.specs.declared.atom.Atom.{Atom}
 use Rattle.sem_query.specs.declared.atom.Element.{Element}
 use Rattle.sem_query.specs.declared.atom.Element.TheVariants as element
-use Rattle.sem_query.specs.declared.atom.Op.{Op}
-use Rattle.sem_query.specs.declared.atom.Op.TheVariants.{Lt, Eq, Gt, Le, Ge, Ne}
 use Rattle.sem_query.specs.declared.plan.Numbers.{Numbers}
 use Rattle.sem_query.specs.declared.plan.Plan.TheVariants as plans
 use Rattle.sem_query.specs.Query.{QueryValue, IsWithinLimits}
@@ -31,7 +29,6 @@ use Rattle.adv_mends.specs.Mended.{IsBound, bounds_on, with_atoms, mended}
 use Rattle.adv_mends.specs.Numbered.{shares}
 use Rattle.adv_mends.specs.Sets.{IsMendOf}
 use Rattle.adv_mends.proofs.MoreAtoms.{bounds-are}
-use Rattle.adv_lines.specs.Lines as lines
 use Rattle.adv_lines.specs.Lines.{bounds_item, numbers_text}
 use Rattle.adv_lines.specs.Items.{behind, bounds_items, comparison_line}
 use Rattle.exec_registry.specs.Live.{newly}
@@ -106,14 +103,6 @@ same-element : (streams : List Shape) (from : List ℕ) (e : Element) → elemen
 same-element streams from (element.Attr a) = refl
 same-element streams from (element.Const k) = refl
 
-same-op : (op : Op) → lines.op_text op ≡ parts.op_text op
-same-op Lt = refl
-same-op Eq = refl
-same-op Gt = refl
-same-op Le = refl
-same-op Ge = refl
-same-op Ne = refl
-
 one-regroup : (w c d e n : List ℕ) → (w ++ c) ++ ((d ++ e) ++ n) ≡ w ++ ((c ++ (d ++ e)) ++ n)
 one-regroup w c d e n = simp append_assoc
 
@@ -122,8 +111,7 @@ unfolding behind
 one-told streams from t numbers =
     let l : List ℕ = parts.operand_text (operand_named streams from t.left) in
     let r : List ℕ = parts.operand_text (operand_named streams from t.right) in
-    ap (λ x. (codes "    with AND " ++ x) ++ ((lines.op_text t.op ++ element_text streams from t.right) ++ numbers_text numbers)) (same-element streams from t.left)
-    ∙ ap (λ x. (codes "    with AND " ++ l) ++ ((x ++ element_text streams from t.right) ++ numbers_text numbers)) (same-op t.op)
+    ap (λ x. (codes "    with AND " ++ x) ++ ((parts.op_text t.op ++ element_text streams from t.right) ++ numbers_text numbers)) (same-element streams from t.left)
     ∙ ap (λ x. (codes "    with AND " ++ l) ++ ((parts.op_text t.op ++ x) ++ numbers_text numbers)) (same-element streams from t.right)
     ∙ one-regroup (codes "    with AND ") l (parts.op_text t.op) r (numbers_text numbers)
 

@@ -1,12 +1,16 @@
 -- When rows of a compact query are cheaper by its parts than as its whole form.
-use Rattle.std.proofs.Common.{◌≡◌, ◌≢◌, ◌↔◌, ◌∷◌, [], false, List, Some, None, sym, ap, ◌∙◌, subst}
-use Rattle.std.specs.Prelude.{IsTrue, IsFalse, Err}
+use Rattle.std.proofs.Common.{◌≡◌, ◌≢◌, ◌↔◌, ◌∷◌, [], Bool, false, List, Option, Some, None, Result, Ok, Err, inl, inr, refl, sym, ap, ◌∙◌, subst}
+use Rattle.std.specs.Prelude.{IsTrue, IsFalse}
 use Rattle.sem_query.specs.declared.plan.Numbers.{Numbers}
 use Rattle.sem_query.specs.declared.plan.PartPlan.{PartPlan}
+use Rattle.sem_query.specs.declared.decision.Which.{Which}
+use Rattle.sem_query.specs.declared.plan.Plan.{Plan}
 use Rattle.sem_query.specs.declared.plan.Plan.TheVariants as plans
 use Rattle.sem_query.specs.Query.{QueryValue, IsWithinLimits, is_filter}
 use Rattle.sem_query.specs.Numbers.{numbers_of}
-use Rattle.sem_query.specs.Verdict.{first_above}
+use Rattle.sem_query.specs.Verdict.{number_of, first_above}
+use Rattle.plan_layout.specs.declared.draft.PlanDraft.{PlanDraft}
+use Rattle.plan_layout.specs.Layout.{numbers_in}
 use Rattle.sem_laws.proofs.Tests.{not_both}
 use Rattle.sem_forms.specs.Fitting.{has_unlike_link, AreCheaper, HasCheaperParts}
 use Rattle.sem_forms.specs.Parts.{IsPartsFor, form_numbers, IsOverLimit}
@@ -21,8 +25,9 @@ use Rattle.sem_forms.proofs.SplitOne.{one_split_plan}
 use Rattle.plan_forms.specs.declared.error.PartsRefusal.{PartsRefusal}
 use Rattle.plan_forms.specs.declared.error.PartsRefusal.TheVariants as why
 use Rattle.plan_forms.specs.declared.fitting.WholePlan.{WholePlan}
-use Rattle.plan_forms.specs.Fitting.{IsFitted}
-use Rattle.plan_forms.specs.Planned.{IsPartsPlan, IsPlannedByParts}
+use Rattle.plan_forms.specs.Fitting.{IsFitted, AreCheaperWithin}
+use Rattle.plan_forms.specs.Planned.{IsPartsPlan, IsPlannedByParts, IsSplitForm, IsFormAnswer}
+use Rattle.plan_forms.proofs.Told.{split_told}
 
 module _ (q : QueryValue) (part : PartPlan) (compact : IsTrue q.compact) (plain : IsFalse (is_filter q)) where
   -- the plan by parts of a compact query is that of its split form
@@ -70,6 +75,23 @@ module _ (q : QueryValue) (part : PartPlan) (compact : IsTrue q.compact) (plain 
       above e = cc
   none_by within why.Memory n is h = absurd (n (λ i. why.Memory))
 
+  -- so what the parts come to is compared
+  pub by_drafts : IsWithinLimits q → (parts : PlanDraft) (own : Numbers) → IsSplitForm q (Ok parts) → IsTrue (has_unlike_link part) → own ≡ numbers_of q (part ∷ [])
+      → AreCheaperWithin (numbers_in parts) own ↔ HasCheaperParts q part
+  by_drafts within parts own form linked e = (into, λ h. from h (first_above (numbers_in parts)) refl)
+    where
+      planned : first_above (numbers_in parts) ≡ None → IsPlannedByParts false q parts.parts.items (numbers_in parts)
+      planned w = split_told q parts compact plain form.0 form.1 (Ok (plans.Parts parts.parts.items (numbers_in parts))) (refl, (refl, w))
+
+      into : AreCheaperWithin (numbers_in parts) own → HasCheaperParts q part
+      into c = (by_plan parts.parts.items (numbers_in parts) own (planned c.0) linked e).0 c.1
+
+      from : HasCheaperParts q part → (o : Option Which) → first_above (numbers_in parts) ≡ o → AreCheaperWithin (numbers_in parts) own
+      from h None w = (w, (by_plan parts.parts.items (numbers_in parts) own (planned w) linked e).1 h)
+      from h (Some which) w =
+          absurd (none_by within (why.Limit which (number_of (numbers_in parts) which)) (λ f. cc)
+          (split_told q parts compact plain form.0 form.1 (Err (why.Limit which (number_of (numbers_in parts) which))) (w, refl)) h)
+
 -- a query whose whole form is within the limits has it exactly where rows are not cheaper by the parts
 module _ (q : QueryValue) (p : WholePlan) (fitted : IsFitted q (Some p)) where
   pub none_whole : HasCheaperParts q p.part → ¬ HasWholeForm q
@@ -79,3 +101,15 @@ module _ (q : QueryValue) (p : WholePlan) (fitted : IsFitted q (Some p)) where
 
   pub is_whole : IsTrue q.compact → IsFalse (is_filter q) → ¬ HasCheaperParts q p.part → IsWholeFormOr q (Some (plans.Parts (p.part ∷ []) p.numbers))
   is_whole compact plain none = whole_is q p.part p.numbers compact plain record { plan = fitted.0.plan; follow = fitted.1; few = fitted.0.few; dear = none } fitted.1 fitted.2
+
+-- what is answered of the parts of a query whose whole form does not fit is its answer
+pub parts_answer : (shared : Bool) (q : QueryValue) → ¬ HasWholeForm q → (r : Result Plan PartsRefusal) → IsPartsPlan shared q r → IsFormAnswer shared q r
+parts_answer shared q none (Ok p) h = inr (none, h)
+parts_answer shared q none (Err why.TooManyParts) h = (none, h)
+parts_answer shared q none (Err (why.Violation part condition attr)) h = (none, h)
+parts_answer shared q none (Err (why.Limit which value)) h = (none, h)
+parts_answer shared q none (Err why.Memory) h = tt
+
+-- one that is not compact has no whole form
+pub plain_answer : (shared : Bool) (q : QueryValue) → IsFalse q.compact → (r : Result Plan PartsRefusal) → IsPartsPlan shared q r → IsFormAnswer shared q r
+plain_answer shared q f r h = parts_answer shared q (λ w. not_both q.compact w.0 f) r h

@@ -1,5 +1,5 @@
 -- The plan of a query by its parts, of either kind, with its numbers; or why there is none.
-use Rattle.std.specs.Prelude.{◌≡◌, ◌≤◌, Bool, IsTrue, IsFalse, List, length, Result, Ok, Err}
+use Rattle.std.specs.Prelude.{◌≡◌, ◌≤◌, ◌⊎◌, Bool, IsTrue, IsFalse, List, length, Result, Ok, Err}
 use Rattle.std.specs.declared.option.Option.TheVariants.{None, Some}
 use Rattle.sem_query.specs.declared.plan.Numbers.{Numbers}
 use Rattle.sem_query.specs.declared.plan.PartPlan.{PartPlan}
@@ -12,6 +12,7 @@ use Rattle.plan_layout.specs.declared.error.LayoutError.{LayoutError}
 use Rattle.plan_layout.specs.declared.error.LayoutError.TheVariants as layout
 use Rattle.plan_layout.specs.Layout.{IsLimited, numbers_in}
 use Rattle.plan_layout.specs.Unset.{AreUnset}
+use Rattle.sem_forms.specs.Forms.{HasWholeForm, IsWholeFormOr}
 use Rattle.sem_forms.specs.Parts.{HasTooManyParts, IsFormViolation, IsPartsFor, form_numbers, IsOverLimit}
 use Rattle.plan_forms.specs.declared.error.PartsRefusal.{PartsRefusal}
 use Rattle.plan_forms.specs.declared.error.PartsRefusal.TheVariants as why
@@ -45,6 +46,14 @@ IsPartsPlan shared q (Err (why.Limit which value)) = MeetsByParts q × IsOverLim
 IsPartsPlan shared q (Err why.TooManyParts) = IsRefusedByParts q why.TooManyParts
 IsPartsPlan shared q (Err (why.Violation part condition attr)) = IsRefusedByParts q (why.Violation part condition attr)
 IsPartsPlan shared q (Err why.Memory) = Unit {0}
+
+-- the plan of the whole form where that fits, and else what is answered of the parts; for want of memory nothing is told
+abbrev pub IsFormAnswer : Bool → QueryValue → Result Plan PartsRefusal → Type 0
+IsFormAnswer shared q (Ok p) = IsWholeFormOr q (Some p) ⊎ ((¬ HasWholeForm q) × IsPartsPlan shared q (Ok p))
+IsFormAnswer shared q (Err why.TooManyParts) = (¬ HasWholeForm q) × IsPartsPlan shared q (Err why.TooManyParts)
+IsFormAnswer shared q (Err (why.Violation part condition attr)) = (¬ HasWholeForm q) × IsPartsPlan shared q (Err (why.Violation part condition attr))
+IsFormAnswer shared q (Err (why.Limit which value)) = (¬ HasWholeForm q) × IsPartsPlan shared q (Err (why.Limit which value))
+IsFormAnswer shared q (Err why.Memory) = Unit {0}
 
 -- the plans of all parts, of either kind, in order, whose boxes are still to be set
 pub data ArePartDrafts (q : QueryValue) (plans : List PartPlan) : Type 0 where

@@ -2,14 +2,14 @@
 ghost use Rattle.std.specs.Prelude.{◌≡◌, ◌≤◌, IsTrue, IsFalse, length};
 ghost use Rattle.sem_query.specs.Query.{is_filter};
 ghost use Rattle.plan_split_pairs.specs.Pairs.{split_pairs};
-ghost use Rattle.plan_forms.specs.Few.{IsFewForm, IsFewPlan};
+ghost use Rattle.plan_forms.specs.Few.{IsFewForm};
 
 use crate::error::PartsRefusal;
-use crate::split::{drafts_of, numbered};
+use crate::split::drafts_of;
 use plan_layout::PlanDraft;
 use plan_split_pairs::form_pairs;
 use plan_split_parts::{PartsError, form_fronts};
-use sem_query::{Pair, Plan, Query};
+use sem_query::{Pair, Query};
 use std::alloc::Global;
 
 // The plans of the parts over these pairs, where there are at most 16, or why there are none.
@@ -33,8 +33,9 @@ fn few_drafts(alloc: Global, q: &Query, pairs: &[Pair]) -> Result<PlanDraft, Par
     }
 }
 
-// The plans of the parts, where there are at most 16, or why there are none.
-fn few_form(alloc: Global, q: &Query) -> Result<PlanDraft, PartsRefusal>
+/// Returns the plans of the parts of a compact query that is no filter, or why it has none: `TooManyParts` where it has more than 16 parts, of which none is
+/// planned, or more than 114 split pairs; else as `split_form`.
+pub fn few_form(alloc: Global, q: &Query) -> Result<PlanDraft, PartsRefusal>
     requires compact { IsTrue q.now.compact }
     requires plain { IsFalse (is_filter q.now) }
     ensures { IsFewForm q.now result }
@@ -42,18 +43,5 @@ fn few_form(alloc: Global, q: &Query) -> Result<PlanDraft, PartsRefusal>
     match form_pairs(q) {
         Some(pairs) => few_drafts(alloc, q, pairs.as_slice()),
         None => Err(PartsRefusal::TooManyParts),
-    }
-}
-
-/// Returns the plan of a compact query that is no filter by its parts, without shared cells, or why it has none: `TooManyParts` where it has more than 16
-/// parts, of which none is planned, or more than 114 split pairs; else as `split_plan`.
-pub fn few_plan(alloc: Global, q: &Query) -> Result<Plan, PartsRefusal>
-    requires compact { IsTrue q.now.compact }
-    requires plain { IsFalse (is_filter q.now) }
-    ensures { IsFewPlan q.now result }
-{
-    match few_form(alloc, q) {
-        Ok(draft) => numbered(draft),
-        Err(why) => Err(why),
     }
 }

@@ -23,8 +23,8 @@ pub struct WholePlan {
     pub numbers: Numbers,
 }
 
-// Whether no number is above its limit.
-fn is_within(numbers: PartNumbers) -> bool
+/// Returns whether no number is above its limit.
+pub fn is_within(numbers: PartNumbers) -> bool
     ensures { IsTrue result ↔ (first_above (of_one numbers) ≡ None) }
 {
     if numbers.cells > 262_144 {

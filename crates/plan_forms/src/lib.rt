@@ -1,4 +1,4 @@
-//! The plan of a query that is no filter: of a compact one its whole form where that fits, and that of its parts.
+//! The plan of a query that is no filter: of a compact one its whole form where that fits, and else that of its parts. `form_plan` gives it.
 //!
 //! `plan_whole_form` tells a form: its links, what the rows of each stream are asked, and which classes each stream keeps. `made_of` makes of it what a part
 //! of a plan keeps, but for where its boxes begin: the conditions in order (`ascending`), each class with its own range, an equality for each two classes of
@@ -17,6 +17,7 @@ mod equating;
 mod error;
 mod few;
 mod fitting;
+mod form;
 mod hulls;
 mod linking;
 mod making;
@@ -30,5 +31,6 @@ mod split;
 mod whole;
 
 pub use error::PartsRefusal;
+pub use form::form_plan;
 pub use parts::{parts_drafts, parts_plan};
 pub use whole::whole_form;

@@ -1,5 +1,5 @@
 //! The plan of a compact query by the parts of its split form.
-ghost use Rattle.std.specs.Prelude.{◌≡◌, ◌≤◌, IsTrue, IsFalse, length, IfOk, IfErr};
+ghost use Rattle.std.specs.Prelude.{◌≡◌, ◌≤◌, IsTrue, IsFalse, length, Ok, IfOk, IfErr};
 ghost use Rattle.sem_query.specs.Query.{is_filter};
 ghost use Rattle.plan_split_pairs.specs.Pairs.{split_pairs};
 ghost use Rattle.plan_split_pairs.specs.SplitParts.{AreSplitParts};
@@ -63,14 +63,35 @@ fn split_form(alloc: Global, q: &Query) -> Result<PlanDraft, PartsRefusal>
     }
 }
 
-/// Returns the plan of the drafts with its numbers, or the first number that is above its limit.
-pub fn numbered(draft: PlanDraft) -> Result<Plan, PartsRefusal>
+// The plan of the drafts with its numbers, or the first number that is above its limit.
+fn numbered(draft: PlanDraft) -> Result<Plan, PartsRefusal>
     requires { length draft.parts.items ≤ 4096 }
     ensures { IsNumberedSplit draft result }
 {
     match planned(draft) {
         Ok(plan) => Ok(plan),
         Err(why) => Err(refusal_of(why)),
+    }
+}
+
+/// Returns the plan of all parts of a compact query that is no filter, without shared cells or with them, or why it has none.
+pub fn plan_of(
+    alloc: Global,
+    q: &Query,
+    draft: PlanDraft,
+    shared: bool,
+) -> Result<Plan, PartsRefusal>
+    requires compact { IsTrue q.now.compact }
+    requires plain { IsFalse (is_filter q.now) }
+    requires form { IsSplitForm q.now (Ok draft) }
+    ensures { IsPartsPlan shared q.now result }
+{
+    if !shared {
+        return numbered(draft);
+    }
+    match with_shared(alloc, q, draft) {
+        Ok(draft) => numbered(draft),
+        Err(_) => Err(PartsRefusal::Memory),
     }
 }
 
@@ -81,11 +102,7 @@ pub fn split_plan(alloc: Global, q: &Query, shared: bool) -> Result<Plan, PartsR
     ensures { IsPartsPlan shared q.now result }
 {
     match split_form(alloc, q) {
-        Ok(draft) if shared => match with_shared(alloc, q, draft) {
-            Ok(draft) => numbered(draft),
-            Err(_) => Err(PartsRefusal::Memory),
-        },
-        Ok(draft) => numbered(draft),
+        Ok(draft) => plan_of(alloc, q, draft, shared),
         Err(why) => Err(why),
     }
 }

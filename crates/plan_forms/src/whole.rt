@@ -1,16 +1,20 @@
 //! The plan of the whole form of a compact query.
-ghost use Rattle.std.specs.Prelude.{◌≡◌, ◌↔◌, [], ◌∷◌, IsTrue, IsFalse, IfOk};
+ghost use Rattle.std.specs.Prelude.{◌≡◌, ◌↔◌, [], ◌∷◌, IsTrue, IsFalse, IfOk, Some, None};
 ghost use Rattle.sem_query.specs.declared.plan.Plan.TheVariants as plans;
 ghost use Rattle.sem_query.specs.Numbers.{numbers_of};
 ghost use Rattle.sem_query.specs.Query.{is_filter};
-ghost use Rattle.sem_forms.specs.Fitting.{has_unlike_link, AreCheaper, HasCheaperParts};
+ghost use Rattle.sem_query.specs.Verdict.{first_above};
+ghost use Rattle.plan_layout.specs.Layout.{numbers_in};
+ghost use Rattle.sem_forms.specs.Fitting.{has_unlike_link, AreCheaper};
 ghost use Rattle.sem_forms.specs.Forms.{IsWholeFormOr};
-ghost use Rattle.plan_forms.specs.Fitting.{IsFitted};
+ghost use Rattle.plan_forms.specs.Fitting.{IsFitted, AreCheaperWithin, AreCheaperParts, IsChosen};
 
 use crate::error::PartsRefusal;
-use crate::few::few_plan;
-use crate::fitting::{WholePlan, whole_plan};
+use crate::few::few_form;
+use crate::fitting::{WholePlan, is_within, whole_plan};
+use plan_layout::PlanDraft;
 use plan_split_pairs::is_unlike;
+use plan_whole_form::PartNumbers;
 use sem_query::{Numbers, PartPlan, PartPlans, Plan, Query};
 use std::alloc::{AllocError, Global};
 
@@ -21,43 +25,102 @@ fn has_unlike_link(part: &PartPlan) -> bool
     part.soft.as_slice().iter().any(|link| is_unlike(link.op))
 }
 
-// Whether rows are cheaper by parts, by the numbers of these and of the whole form.
-fn are_cheaper(parts: Numbers, whole: Numbers) -> bool
-    ensures { IsTrue result ↔ AreCheaper parts whole }
+// Whether rows are cheaper by parts, by what these come to and the numbers of the whole form.
+fn take_less(parts: &PlanDraft, whole: Numbers) -> bool
+    ensures { IsTrue result ↔ AreCheaper (numbers_in parts.now) whole }
 {
     // Each part costs a row something beside the work that is announced: above so many that was mostly more than what less work spared.
-    parts.parts <= 16 && parts.work < whole.work
+    parts.parts.len() <= 16 && parts.work < u64::from(whole.work)
 }
 
-// Whether streams are linked by `<>` in a plan of the whole form, and rows are cheaper by the parts of the query. An error says that memory was not found.
-fn has_cheaper_parts(alloc: Global, q: &Query, whole: &WholePlan) -> Result<bool, AllocError>
+// Whether no number that parts come to is above its limit.
+fn are_within(parts: &PlanDraft) -> bool
+    ensures { IsTrue result ↔ (first_above (numbers_in parts.now) ≡ None) }
+{
+    is_within(PartNumbers {
+        cells: parts.cells,
+        answers: parts.answers,
+        work: parts.work,
+    })
+}
+
+// Whether rows are cheaper by parts that are within the limits.
+fn are_cheaper(parts: &PlanDraft, whole: Numbers) -> bool
+    ensures { IsTrue result ↔ AreCheaperWithin (numbers_in parts.now) whole }
+{
+    are_within(parts) && take_less(parts, whole)
+}
+
+// The parts, where streams are linked by `<>` in the plan of the whole form, and rows are cheaper by the parts of the query. An error says that memory was not
+// found.
+fn cheaper_parts(
+    alloc: Global,
+    q: &Query,
+    whole: &WholePlan,
+) -> Result<Option<PlanDraft>, AllocError>
     requires compact { IsTrue q.now.compact }
     requires plain { IsFalse (is_filter q.now) }
     requires numbers { whole.now.numbers ≡ numbers_of q.now (whole.now.part ∷ []) }
-    ensures { IfOk result (λ cheaper. IsTrue cheaper ↔ HasCheaperParts q.now whole.now.part) }
+    ensures { IfOk result (AreCheaperParts q.now whole.now.part) }
 {
     if !has_unlike_link(&whole.part) {
-        return Ok(false);
+        return Ok(None);
     }
     // Named for the proof alone: the query is within its limits.
     let _from = q.from();
-    match few_plan(alloc, q) {
-        Ok(Plan::Filter) => unreachable!(),
-        Ok(
-            Plan::Parts {
-                parts: _parts,
-                numbers,
-            },
-        ) => Ok(are_cheaper(numbers, whole.numbers)),
-        Err(PartsRefusal::TooManyParts) => Ok(false),
-        Err(PartsRefusal::Violation { .. }) => Ok(false),
-        Err(PartsRefusal::Limit { .. }) => Ok(false),
+    match few_form(alloc, q) {
+        Ok(parts) => {
+            if are_cheaper(&parts, whole.numbers) {
+                Ok(Some(parts))
+            } else {
+                Ok(None)
+            }
+        }
+        Err(PartsRefusal::TooManyParts) => Ok(None),
+        Err(PartsRefusal::Violation { .. }) => Ok(None),
+        Err(PartsRefusal::Limit { .. }) => Ok(None),
         Err(PartsRefusal::Memory) => Err(AllocError),
     }
 }
 
-// The plan of one part.
-fn planned(alloc: Global, whole: WholePlan) -> Result<Plan, AllocError>
+/// How a compact query is planned.
+#[derive(Drop)]
+pub enum ChosenForm {
+    /// By its whole form, which fits.
+    Whole(WholePlan),
+    /// By these parts: its whole form is within the limits, and rows are cheaper by them.
+    Cheaper(PlanDraft),
+    /// By its parts: its whole form is not within the limits.
+    Parts,
+}
+
+// How a compact query is planned whose whole form is within the limits. An error says that memory was not found.
+fn cheaper(alloc: Global, q: &Query, whole: WholePlan) -> Result<ChosenForm, AllocError>
+    requires compact { IsTrue q.now.compact }
+    requires plain { IsFalse (is_filter q.now) }
+    requires fitted { IsFitted q.now (Some whole) }
+    ensures { IfOk result (IsChosen q.now) }
+{
+    match cheaper_parts(alloc, q, &whole)? {
+        Some(parts) => Ok(ChosenForm::Cheaper(parts)),
+        None => Ok(ChosenForm::Whole(whole)),
+    }
+}
+
+/// Returns how a compact query that is no filter is planned. An error says that memory was not found.
+pub fn chosen(alloc: Global, q: &Query) -> Result<ChosenForm, AllocError>
+    requires compact { IsTrue q.now.compact }
+    requires plain { IsFalse (is_filter q.now) }
+    ensures { IfOk result (IsChosen q.now) }
+{
+    match whole_plan(alloc, q)? {
+        Some(whole) => cheaper(alloc, q, whole),
+        None => Ok(ChosenForm::Parts),
+    }
+}
+
+/// Returns the plan of one part. An error says that memory was not found.
+pub fn planned(alloc: Global, whole: WholePlan) -> Result<Plan, AllocError>
     ensures { IfOk result (λ p. p ≡ plans.Parts (whole.part ∷ []) whole.numbers) }
 {
     let WholePlan { part, numbers } = whole;
@@ -66,20 +129,6 @@ fn planned(alloc: Global, whole: WholePlan) -> Result<Plan, AllocError>
         parts: PartPlans::of(parts),
         numbers,
     })
-}
-
-// The plan of the whole form of a compact query, where rows are not cheaper by its parts.
-fn chosen(alloc: Global, q: &Query, whole: WholePlan) -> Result<Option<Plan>, AllocError>
-    requires compact { IsTrue q.now.compact }
-    requires plain { IsFalse (is_filter q.now) }
-    requires fitted { IsFitted q.now (Some whole) }
-    ensures { IfOk result (IsWholeFormOr q.now) }
-{
-    if has_cheaper_parts(alloc, q, &whole)? {
-        Ok(None)
-    } else {
-        Ok(Some(planned(alloc, whole)?))
-    }
 }
 
 /// Returns the plan of a query that is no filter as its whole form, one part with its numbers: the boxes follow each other by FROM, from
@@ -93,8 +142,9 @@ pub fn whole_form(alloc: Global, q: &Query) -> Result<Option<Plan>, AllocError>
     if !q.compact() {
         return Ok(None);
     }
-    match whole_plan(alloc, q)? {
-        None => Ok(None),
-        Some(whole) => chosen(alloc, q, whole),
+    match chosen(alloc, q)? {
+        ChosenForm::Whole(whole) => Ok(Some(planned(alloc, whole)?)),
+        ChosenForm::Cheaper(_parts) => Ok(None),
+        ChosenForm::Parts => Ok(None),
     }
 }

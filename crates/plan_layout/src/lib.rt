@@ -25,11 +25,7 @@ mod ranges;
 mod selecting;
 mod shares;
 mod sizes;
-#[cfg(test)]
-mod tests;
 
 pub use draft::{PlanDraft, cells_over, narrowed};
 pub use error::LayoutError;
-pub use plan::{
-    lay_out, layout, layout_shared, part_plans, parts_of, planned, violation_at, with_shared,
-};
+pub use plan::{lay_out, part_plans, parts_of, planned, violation_at, with_shared};

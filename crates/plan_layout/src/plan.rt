@@ -123,9 +123,14 @@ pub fn part_plans(alloc: Global, q: &Query, parts: &[Part]) -> Result<Vec<PartPl
     }
 }
 
-/// Returns the plan of a query, with its numbers, from the list of all its parts, of which there are at most 4,096: without shared cells as
-/// `layout` gives it, or with them as `layout_shared` does. A program that needs both calls this at one place: the work on a part is
-/// inlined there, and it is not where it is called from two.
+/// Returns the plan of a query, with its numbers, from the list of all its parts, of which there are at most 4,096. A filter has no parts and keeps
+/// nothing, and it has its plan always. Without shared cells the boxes of cells follow each other by part and then by FROM, from cell 0 on. With
+/// them, boxes of which the cells are the same, whatever rows come, stand once: the different boxes follow each other by their first part and then by
+/// FROM, each box begins where the first one that is the same begins, and the cells are those of the different boxes.
+///
+/// `Violation` tells the first part that breaks a condition, in it the first condition, and for it the first column. Where all conditions are met,
+/// `Limit` tells the first of cells, answers and work that is above its limit, and how much it is; `Memory` is answered where the list of the plans
+/// of the parts, or that of the different boxes, finds no room. No other memory is taken.
 pub fn lay_out(alloc: Global, q: &Query, parts: &[Part], shared: bool) -> Result<Plan, LayoutError>
     requires parts { AreParts q.now (sign_lists parts.now) }
     requires few { length parts.now ≤ 4096 }
@@ -142,29 +147,4 @@ pub fn lay_out(alloc: Global, q: &Query, parts: &[Part], shared: bool) -> Result
         Ok(draft) => planned(draft),
         Err(why) => Err(why),
     }
-}
-
-/// Returns the plan of a query, with its numbers, from the list of all its parts, of which there are at most 4,096. The boxes of
-/// cells follow each other by part and then by FROM, from cell 0 on. A filter has no parts and keeps nothing, and it has its plan
-/// always. `Violation` tells the first part that breaks a condition, in it the first condition, and for it the first column.
-/// Where all conditions are met, `Limit` tells the first of cells, answers and work that is above its limit, and how much
-/// it is; `Memory` is answered where the list of the plans of the parts finds no room. No other memory is taken.
-pub fn layout(alloc: Global, q: &Query, parts: &[Part]) -> Result<Plan, LayoutError>
-    requires parts { AreParts q.now (sign_lists parts.now) }
-    requires few { length parts.now ≤ 4096 }
-    ensures { IsLayout false q.now result }
-{
-    lay_out(alloc, q, parts, false)
-}
-
-/// Returns the plan of a query with shared cells: boxes of which the cells are the same, whatever rows come, stand once. The different boxes
-/// follow each other by their first part and then by FROM, from cell 0 on, and each box begins where the first one that is the same
-/// begins. The cells are those of the different boxes; the other numbers, and which error is answered, are as `layout` has them.
-/// `Memory` is also answered where the list of the different boxes finds no room.
-pub fn layout_shared(alloc: Global, q: &Query, parts: &[Part]) -> Result<Plan, LayoutError>
-    requires parts { AreParts q.now (sign_lists parts.now) }
-    requires few { length parts.now ≤ 4096 }
-    ensures { IsLayout true q.now result }
-{
-    lay_out(alloc, q, parts, true)
 }

@@ -1,6 +1,6 @@
 -- The constraints of a part, one after another.
-use Rattle.std.proofs.Common.{◌≡◌, ℕ, ◌+◌, ◌*◌, ◌<◌, ◌≤◌, List, [], ◌∷◌, ◌++◌, ap₂, get_or, filter, length, length-append, take, All, slice_get, slice_index_or, pos, Some, refl, sym, ◌∙◌, ap, subst, arith}
-use Rattle.std.proofs.lemmas.List.{take_more, take_all, take-take, length-take-le, length-map}
+use Rattle.std.proofs.Common.{◌≡◌, ℕ, ◌+◌, ◌*◌, ◌<◌, ◌≤◌, List, [], ◌++◌, filter, length, take, All, slice_get, slice_index_or, pos, Some, refl, sym, ◌∙◌, ap, subst, arith}
+use Rattle.std.proofs.lemmas.List.{take_more, take-take, length-take-le, length-map}
 use Rattle.plan_closure.specs.ChoiceValue.{ChoiceValue}
 use Rattle.plan_closure.specs.Choices.{IsChoice, AreChoices, chosen}
 use Rattle.plan_closure.proofs.Zips.{zip_length, zip_at}
@@ -11,7 +11,6 @@ use Rattle.sem_query.specs.declared.atom.Element.TheVariants as element
 use Rattle.sem_query.specs.Query.{QueryValue, attrs_of, is_soft, IsWithinLimits}
 use Rattle.sem_query.specs.Parts.{pairs, signs_of, IsPart}
 use Rattle.plan_constraints.specs.declared.constraint.Constraint.{Constraint}
-use Rattle.plan_closure.specs.BoundsValue.{BoundsValue}
 use Rattle.plan_constraints.specs.Nodes.{constraints_of}
 use Rattle.plan_constraints.specs.PartConstraints.{of_base, of_prefix}
 use Rattle.plan_constraints.specs.Solutions.{IsWithin}
@@ -19,7 +18,7 @@ use Rattle.plan_constraints.proofs.NodeFacts.{length-constraints}
 use Rattle.plan_constraints.proofs.Prefix.{pair_at, prefix_more, of_no_prefix}
 use Rattle.plan_closure.specs.declared.distances.Distances.{Distances}
 use Rattle.plan_closure.specs.Shortest.{AreDistancesOf}
-use Rattle.plan_links.specs.Known.{IsKnown, AreKnown, AddsSign}
+use Rattle.plan_links.specs.Known.{AddsSign}
 
 -- ---- the signs
 
@@ -71,14 +70,7 @@ distances_more q ss i n cs d a h = subst (λ (z : List Constraint). AreDistances
 pub within_for : (q : QueryValue) (ss : List Sign) (i : ℕ) (cs ds : List Constraint) (d : Distances) → AddsSign q ss i cs → AreDistancesOf d (length (attrs_of q.atoms)) ds → All (IsWithin d.attrs) cs
 within_for q ss i cs ds d a h = subst (λ (n : ℕ). All (IsWithin n) cs) (sym h.attrs) a.within
 
-pub known_by : (q : QueryValue) (ss : List Sign) (i : ℕ) (d : Distances) → IsPart q ss → IsWithinLimits q → length ss ≤ i → AreDistancesOf d (length (attrs_of q.atoms)) (of_prefix q (take i ss)) → AreKnown q ss d
-known_by q ss i d p w l h = record { part = p; within = w; few = w.few_attrs; distances = subst (λ (z : List Constraint). AreDistancesOf d (length (attrs_of q.atoms)) z) (ap (of_prefix q) (take_all i ss l)) h }
-
 -- ---- first signs
-
--- one more sign that two lists share
-pub shared_more : (ss ts : List Sign) (i : ℕ) (s t : Sign) → i < length ss → i < length ts → get_or ss i s ≡ get_or ts i t → take i ss ≡ take i ts → take (i + 1) ss ≡ take (i + 1) ts
-shared_more ss ts i s t l m e h = take_more ss i s l ∙ ap₂ (λ xs x. xs ++ x ∷ []) h e ∙ sym (take_more ts i t m)
 
 -- fewer first signs are shared, too
 pub shared_fewer : (ss ts : List Sign) (n m : ℕ) → n ≤ m → take m ss ≡ take m ts → take n ss ≡ take n ts

@@ -9,3 +9,4 @@ pub mod Asking
 pub mod Classing
 pub mod Choosing
 pub mod Streaming
+mod Placed

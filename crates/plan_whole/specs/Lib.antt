@@ -4,3 +4,4 @@ pub mod Asked
 pub mod Classes
 pub mod Extremes
 pub mod Streams
+pub mod Places

@@ -12,6 +12,7 @@ ghost use Rattle.sem_whole.specs.Laws.{IsLeastBound};
 ghost use Rattle.sem_whole.specs.Signed.{op_of, said, with_signs, IsWellFormed, IsSide, AreSignedPairs};
 ghost use Rattle.plan_whole.specs.Closed.{constraint_of, named_bounds, closed_constraints, domain_ends, apart, negated, bound_at, IsSmall, IsMet, IsModest, IsWithSigns, IsSolvable, IsClosedSystem, ends_of};
 
+use crate::places::{place_in, places_of};
 use arrayvec::ArrayVec;
 use plan_constraints::{Constraint, add_each, difference, node, place_of};
 use sem_query::{Atom, Attr, Domain, Element, Op, Pair, Query, Sign, is_same};
@@ -33,25 +34,27 @@ pub(crate) struct SignedQuery<'a> {
 }
 
 /// A query with the signs of some of its pairs as comparisons before its own, where its system has a solution, with the least bound of the
-/// difference of each two of its attributes. A clause sees the query with the signs.
+/// difference of each two of its attributes, and where these stand. A clause sees the query with the signs.
 #[derive(Drop)]
 pub struct ClosedSystem<'a> {
     query: &'a Query,
     pairs: &'a [Pair],
     signs: &'a [Sign],
+    places: [u8; 32],
     bounds: [Option<i64>; 169],
 }
 
 impl<'a> Model for ClosedSystem<'a> {
-    ghost use Rattle.sem_query.specs.Query.{QueryValue};
+    ghost use Rattle.sem_query.specs.Query.{QueryValue, attrs_of};
     ghost use Rattle.sem_whole.specs.Signed.{with_signs, AreSignedPairs};
     ghost use Rattle.plan_whole.specs.Closed.{IsClosedSystem};
+    ghost use Rattle.plan_whole.specs.Places.{ArePlaces};
 
     ghost Value = { QueryValue };
 
     ghost view = { λ s. with_signs s.pairs.now s.signs.now s.query.now };
 
-    ghost invariant = { λ s. AreSignedPairs s.query.now s.pairs.now s.signs.now × IsClosedSystem (with_signs s.pairs.now s.signs.now s.query.now) s.bounds };
+    ghost invariant = { λ s. AreSignedPairs s.query.now s.pairs.now s.signs.now × IsClosedSystem (with_signs s.pairs.now s.signs.now s.query.now) s.bounds × ArePlaces (attrs_of s.query.now.atoms) s.places };
 }
 
 /// Returns the closed system of a query with the signs of some of its pairs, by the table of the least bounds between its nodes, 13 to a row: node 0
@@ -70,6 +73,7 @@ pub fn closed_at<'a>(
         query,
         pairs,
         signs,
+        places: places_of(query.attrs()),
         bounds: *bounds,
     }
 }
@@ -109,7 +113,7 @@ impl<'a> ClosedSystem<'a> {
         ensures high { IsSmall result.hi }
     {
         let attrs = self.query.attrs();
-        let place = place_of(attrs, a);
+        let place = place_in(&self.places, attrs, a);
         if place < attrs.len() {
             ends_at(&self.bounds, place as u8 + 1)
         } else {
@@ -126,8 +130,8 @@ impl<'a> ClosedSystem<'a> {
         if is_same(a, b) {
             return Some(0);
         }
-        let left = place_of(attrs, a);
-        let right = place_of(attrs, b);
+        let left = place_in(&self.places, attrs, a);
+        let right = place_in(&self.places, attrs, b);
         if are_below(left, right, attrs.len()) {
             bound_at(&self.bounds, left as u8 + 1, right as u8 + 1)
         } else {

@@ -13,6 +13,7 @@ mod ends;
 mod extreme;
 mod kept;
 mod links;
+mod places;
 mod plan;
 mod streams;
 

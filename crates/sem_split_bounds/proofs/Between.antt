@@ -36,7 +36,7 @@ use Rattle.sem_split_bounds.proofs.Paths.{Leads, here, onward, system_tight, lea
 use Rattle.sem_split_bounds.proofs.Ends.{NoTop, NoBottom}
 use Rattle.sem_split_bounds.proofs.Reach.{Reach, ReachedBy, reach, reached-by}
 use Rattle.sem_split_bounds.proofs.Motions.{moved, moved_solves, two_blocks, blocks_first, blocks_ahead, blocks_behind}
-use Rattle.sem_split_bounds.proofs.Parts.{IsPart}
+use Rattle.sem_split_bounds.proofs.Parts.{IsPart, based}
 use Rattle.sem_split_bounds.proofs.PartSolutions.{base_solves, signs_alike}
 use Rattle.sem_split_bounds.proofs.Standing.{sides_of}
 
@@ -293,8 +293,8 @@ module _ (q : QueryValue) (within : IsWithinLimits q) (ps : List Pair) (ss : Lis
       raised f r =
           let t : ℤ = (h -ℤ u x) +ℤ pos 1 in
           let m : Attr → ℤ = two_blocks f f t (pos 0) in
-          let k = b u (base_solves q within ps ss is) in
-          let l = b (moved u m) (moved_solves ds u m (base_solves q within ps ss is) (blocks_ahead ds f f t (pos 0) r.ahead r.ahead (omega (arith, ints)) (omega (arith, ints, k)))) in
+          let k = b u (base_solves q within ps ss (based q ps ss is)) in
+          let l = b (moved u m) (moved_solves ds u m (base_solves q within ps ss (based q ps ss is)) (blocks_ahead ds f f t (pos 0) r.ahead r.ahead (omega (arith, ints)) (omega (arith, ints, k)))) in
           let e : m x ≡ t = blocks_first f f t (pos 0) x (r.all x here) in
           omega (arith, ints, k, l, e)
 
@@ -306,8 +306,8 @@ module _ (q : QueryValue) (within : IsWithinLimits q) (ps : List Pair) (ss : Lis
       lowered f r =
           let t : ℤ = (h -ℤ u x) -ℤ pos 1 in
           let m : Attr → ℤ = two_blocks f f t (pos 0) in
-          let k = b u (base_solves q within ps ss is) in
-          let l = b (moved u m) (moved_solves ds u m (base_solves q within ps ss is) (blocks_behind ds f f t (pos 0) r.behind r.behind (omega (arith, ints)) (omega (arith, ints, k)))) in
+          let k = b u (base_solves q within ps ss (based q ps ss is)) in
+          let l = b (moved u m) (moved_solves ds u m (base_solves q within ps ss (based q ps ss is)) (blocks_behind ds f f t (pos 0) r.behind r.behind (omega (arith, ints)) (omega (arith, ints, k)))) in
           let e : m x ≡ t = blocks_first f f t (pos 0) x (r.all x here) in
           omega (arith, ints, k, l, e)
 
@@ -588,11 +588,11 @@ module _ (q : QueryValue) (within : IsWithinLimits q) (ps : List Pair) (ss : Lis
     where
       by : (s : Sign) → sign_at u p ≡ s
           → Bound ds (element.Attr p.left) p.right (neg_ℤ (pos 1)) ⊎ (Bound ds p.right (element.Attr p.left) (neg_ℤ (pos 1)) ⊎ (Bound ds (element.Attr p.left) p.right (pos 0) × Bound ds p.right (element.Attr p.left) (pos 0)))
-      by Sign.Lt e = inl (λ v m. let l = lt_from_sign (v p.left) (value p.right v) (signs_alike q within ps ss is v m p h ∙ e) in omega (arith, ints, l))
-      by Sign.Gt e = inr (inl (λ v m. let l = gt_from_sign (v p.left) (value p.right v) (signs_alike q within ps ss is v m p h ∙ e) in omega (arith, ints, l)))
+      by Sign.Lt e = inl (λ v m. let l = lt_from_sign (v p.left) (value p.right v) (signs_alike q within ps ss (based q ps ss is) v m p h ∙ e) in omega (arith, ints, l))
+      by Sign.Gt e = inr (inl (λ v m. let l = gt_from_sign (v p.left) (value p.right v) (signs_alike q within ps ss (based q ps ss is) v m p h ∙ e) in omega (arith, ints, l)))
       by Sign.Eq e = inr (inr (
-        λ v m. (let l = eq_from_sign (v p.left) (value p.right v) (signs_alike q within ps ss is v m p h ∙ e) in omega (arith, ints, l)),
-        λ v m. (let l = eq_from_sign (v p.left) (value p.right v) (signs_alike q within ps ss is v m p h ∙ e) in omega (arith, ints, l)),
+        λ v m. (let l = eq_from_sign (v p.left) (value p.right v) (signs_alike q within ps ss (based q ps ss is) v m p h ∙ e) in omega (arith, ints, l)),
+        λ v m. (let l = eq_from_sign (v p.left) (value p.right v) (signs_alike q within ps ss (based q ps ss is) v m p h ∙ e) in omega (arith, ints, l)),
       ))
 
   bound_wider : (x y : Element) (c : ℤ) → c ≤ℤ pos 0 → Bound ds x y c → Bound ds x y (pos 0)

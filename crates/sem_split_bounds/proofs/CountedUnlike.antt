@@ -33,7 +33,7 @@ use Rattle.sem_split_bounds.proofs.Paths.{Step, step_leads, leads_bound, here}
 use Rattle.sem_split_bounds.proofs.Ends.{Free, up, down, top_over, bottom_under}
 use Rattle.sem_split_bounds.proofs.Reach.{raised_with, lowered_with}
 use Rattle.sem_split_bounds.proofs.Motions.{moved, moved_solves, moved_near, two_blocks, blocks_first, blocks_neither, blocks_ahead, blocks_behind}
-use Rattle.sem_split_bounds.proofs.Parts.{split_part}
+use Rattle.sem_split_bounds.proofs.Parts.{based, split_part}
 use Rattle.sem_split_bounds.proofs.PartSolutions.{base_solves, solution_written}
 use Rattle.sem_split_bounds.proofs.Spacing.{spread_of, spread_over}
 use Rattle.sem_split_bounds.proofs.Between.{no_integer, same_column, pair_sides, from_pair}
@@ -313,7 +313,7 @@ module _ (q : QueryValue) (within : IsWithinLimits q) (ss : List Sign) (is : IsS
   -- without DISTINCT one difference is enough
   pub counted_step_needs : IsFalse (is_filter q) → q.distinct ≡ false → (x y : Attr) → Step ds x y → Free ds x y → NeedsStates (written q)
   counted_step_needs joins d x y t free n = elim (step_or_unlike x y t) [
-    | inl o ↦ open_step_needs q within (split_pairs q) ss (split_part q within ss is) d x y t o free n
+    | inl o ↦ open_step_needs q within (split_pairs q) ss (based q (split_pairs q) ss (split_part q within ss is)) d x y t o free n
     | inr u ↦ by u free
   ]
     where
@@ -326,20 +326,20 @@ module _ (q : QueryValue) (within : IsWithinLimits q) (ss : List Sign) (is : IsS
       by : Unlike x y → Free ds x y → ⊥
       by u (up h) = raised_with (part_query q ss) x h (λ f.
           level_needs d x y t.across named two u f.0 (f.1.all x here) (f.1.all y (step_leads ds x y t))
-          (λ a i. false_if (f.0 a) (λ e. open_column_needs q within (split_pairs q) ss (split_part q within ss is) joins a (Contains-from_has q.select a i)
+          (λ a i. false_if (f.0 a) (λ e. open_column_needs q within (split_pairs q) ss (based q (split_pairs q) ss (split_part q within ss is)) joins a (Contains-from_has q.select a i)
           (inl (top_over ds x a (pos 0) (leads_bound (part_query q ss) x a (f.1.only a e)) h)) n))
           (λ i. pos (suc i * suc (4 * s)))
-          (λ i. moved_solves ds is.one (two_blocks f.0 f.0 (pos (suc i * suc (4 * s))) (pos (suc i * suc (4 * s)))) (base_solves q within (split_pairs q) ss (split_part q within ss is))
+          (λ i. moved_solves ds is.one (two_blocks f.0 f.0 (pos (suc i * suc (4 * s))) (pos (suc i * suc (4 * s)))) (base_solves q within (split_pairs q) ss (based q (split_pairs q) ss (split_part q within ss is)))
           (blocks_ahead ds f.0 f.0 (pos (suc i * suc (4 * s))) (pos (suc i * suc (4 * s))) f.1.ahead f.1.ahead (omega (arith, ints)) (omega (arith, ints))))
           (λ i. inl (step_far s i))
           (λ i j o. elim (either_less i j o) [ inl l ↦ inl (steps_apart s i j l) | inr l ↦ inr (let m = steps_apart s j i l in omega (arith, ints, m)) ])
           (λ i. omega (arith, ints)) n)
       by u (down h) = lowered_with (part_query q ss) y h (λ f.
           level_needs d x y t.across named two u f.0 (f.1.all x (step_leads ds x y t)) (f.1.all y here)
-          (λ a i. false_if (f.0 a) (λ e. open_column_needs q within (split_pairs q) ss (split_part q within ss is) joins a (Contains-from_has q.select a i)
+          (λ a i. false_if (f.0 a) (λ e. open_column_needs q within (split_pairs q) ss (based q (split_pairs q) ss (split_part q within ss is)) joins a (Contains-from_has q.select a i)
           (inr (bottom_under ds a y (pos 0) (leads_bound (part_query q ss) a y (f.1.only a e)) h)) n))
           (λ i. neg_ℤ (pos (suc i * suc (4 * s))))
-          (λ i. moved_solves ds is.one (two_blocks f.0 f.0 (neg_ℤ (pos (suc i * suc (4 * s)))) (neg_ℤ (pos (suc i * suc (4 * s))))) (base_solves q within (split_pairs q) ss (split_part q within ss is))
+          (λ i. moved_solves ds is.one (two_blocks f.0 f.0 (neg_ℤ (pos (suc i * suc (4 * s)))) (neg_ℤ (pos (suc i * suc (4 * s))))) (base_solves q within (split_pairs q) ss (based q (split_pairs q) ss (split_part q within ss is)))
           (blocks_behind ds f.0 f.0 (neg_ℤ (pos (suc i * suc (4 * s)))) (neg_ℤ (pos (suc i * suc (4 * s)))) f.1.behind f.1.behind (omega (arith, ints)) (omega (arith, ints))))
           (λ i. inr (let m = step_far s i in omega (arith, ints, m)))
           (λ i j o. elim (either_less i j o) [ inl l ↦ inr (let m = steps_apart s i j l in omega (arith, ints, m)) | inr l ↦ inl (let m = steps_apart s j i l in omega (arith, ints, m)) ])

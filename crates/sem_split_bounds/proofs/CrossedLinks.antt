@@ -1,4 +1,4 @@
--- Links `<` and `<=` at one stream, free at an end: two of them need many states with DISTINCT, whichever paths join them.
+-- Links `<` and `<=` at one stream, free at an end: two of them tell, whichever paths join them.
 use Rattle.std.proofs.Common.{◌≡◌, ◌≢◌, ℕ, ℤ, pos, neg_ℤ, ◌+ℤ◌, ◌≤ℤ◌, ◌⊎◌, inl, inr, List, true, refl, sym, ap, ◌∙◌, subst, arith}
 use Rattle.std.proofs.lemmas.Int.{ints}
 use Rattle.sem_query.specs.declared.atom.Atom.{Atom}
@@ -16,17 +16,15 @@ use Rattle.sem_whole.specs.System.{Difference, bounds_of, atom_bounds, system, B
 use Rattle.sem_whole.specs.Links as between
 use Rattle.sem_whole.specs.Links.{AreOfOne, Follows, Goes, AreLinks}
 use Rattle.sem_whole.specs.Signed.{with_signs}
-use Rattle.sem_lower_bounds.specs.States.{NeedsStates}
-use Rattle.sem_lower_bounds.specs.Within.{written}
 use Rattle.sem_lower_bounds.proofs.Possible.{either}
 use Rattle.sem_split_bounds.proofs.Paths.{bounds_tight, Leads, Step, step_leads, leads_bound, leads_more, leaving}
 use Rattle.sem_split_bounds.proofs.Ends.{NoTop, NoBottom, Free, up, down, top_over, bottom_under}
-use Rattle.sem_split_bounds.proofs.Parts.{IsPart}
+use Rattle.sem_split_bounds.proofs.Parts.{IsPart, based}
 use Rattle.sem_split_bounds.proofs.PartSolutions.{base_solves}
-use Rattle.sem_split_bounds.proofs.FreeSteps.{AreOfQuery, part_step_named}
+use Rattle.sem_split_bounds.proofs.FreeSteps.{part_step_named}
 use Rattle.sem_split_bounds.proofs.OpenLinks.{strict_not_unlike, link_steps, OpenLink}
-use Rattle.sem_split_bounds.proofs.MovedFamilies.{both_sides_need}
-use Rattle.sem_split_bounds.proofs.OpposedFamilies.{Side, at_left, at_right, OneSide, lefts, rights, OtherSides, left_right, right_left, OneEnd, apart_need, beside_need}
+use Rattle.sem_split_bounds.proofs.Telling.{TwoSidesTell, BesideTells, OpposedTell}
+use Rattle.sem_split_bounds.proofs.OpposedFamilies.{Side, at_left, at_right, OneSide, lefts, rights, OtherSides, left_right, right_left, OneEnd}
 use Rattle.sem_split_bounds.proofs.Standing.{StandsFor, link_beside, step_stands}
 use Rattle.sem_split_bounds.proofs.Between.{leads_grouped, over_all, ordered}
 
@@ -77,7 +75,7 @@ strict_bound r links are x y k = leads_bound r x y (step_leads (system r) x y (s
 abbrev pub AreApart : List Difference → ℕ → Attr → Attr → Attr → Attr → Type 0
 AreApart ds place x1 y1 x2 y2 = (x1.stream ≡ place → x2.stream ≡ place → AreOneClass ds x1 x2 → ⊥) × (y1.stream ≡ place → y2.stream ≡ place → AreOneClass ds y1 y2 → ⊥)
 
-module _ (q : QueryValue) (within : IsWithinLimits q) (ps : List Pair) (ss : List Sign) (is : IsPart q ps ss) (steps : AreOfQuery q ps ss)
+module _ (q : QueryValue) (within : IsWithinLimits q) (ps : List Pair) (ss : List Sign) (is : IsPart q ps ss) (P : Type 0) (both : TwoSidesTell q ps ss P)
     (links : List Atom) (are : AreLinks (with_signs ps ss q) links) where
   abbrev ds : List Difference
   ds = system (with_signs ps ss q)
@@ -98,10 +96,10 @@ module _ (q : QueryValue) (within : IsWithinLimits q) (ps : List Pair) (ss : Lis
           = strict_says t.op t.left t.right s.of o (subst (λ t. Has (atom_bounds t) s.of) (sym i) s.says) in
           let a : is.one s.left ≡ is.one x = ap (λ e. value e is.one) (sym s.is_left ∙ m.0 ∙ ex) in
           let c : is.one s.right ≡ is.one y = ap (λ e. value e is.one) (sym s.is_right ∙ m.1 ∙ ey) in
-          let n1 = b is.one (base_solves q within ps ss is) in
-          let n2 = s.before is.one (base_solves q within ps ss is) in
-          let n3 = s.after is.one (base_solves q within ps ss is) in
-          let n4 = g is.one (base_solves q within ps ss is) in
+          let n1 = b is.one (base_solves q within ps ss (based q ps ss is)) in
+          let n2 = s.before is.one (base_solves q within ps ss (based q ps ss is)) in
+          let n3 = s.after is.one (base_solves q within ps ss (based q ps ss is)) in
+          let n4 = g is.one (base_solves q within ps ss (based q ps ss is)) in
           omega (arith, ints, a, c, n1, n2, n3, n4, l)
 
       before : Bound ds (element.Attr x) s.of.left one
@@ -120,11 +118,11 @@ module _ (q : QueryValue) (within : IsWithinLimits q) (ps : List Pair) (ss : Lis
           (let k = m.2 in omega (arith, ints, n, l, k))))
 
   -- a path between two streams that is free at an end crosses once, and then some link stands for it, or a third stream has a difference on each side
-  path_needs : (x y : Attr) → x.stream ≢ y.stream → Leads ds x y → Free ds x y → (StandsFor ds links x y → NeedsStates (written q)) → NeedsStates (written q)
+  path_needs : (x y : Attr) → x.stream ≢ y.stream → Leads ds x y → Free ds x y → (StandsFor ds links x y → ¬ P) → ¬ P
   path_needs x y n p free then m = elim (leaving ds x y p) [
     | inl e ↦ absurd (n e)
     | inr l ↦ elim (leaving ds l.1 y l.5) [
-      | inl e ↦ step_stands (with_signs ps ss q) is.one (base_solves q within ps ss is) links are l.0 l.1 l.4 (kept_free l.0 l.1 l.2 l.5) (λ s.
+      | inl e ↦ step_stands (with_signs ps ss q) is.one (base_solves q within ps ss (based q ps ss is)) links are l.0 l.1 l.4 (kept_free l.0 l.1 l.2 l.5) (λ s.
           then record {
             one = s.one;
             among = s.among;
@@ -139,7 +137,7 @@ module _ (q : QueryValue) (within : IsWithinLimits q) (ps : List Pair) (ss : Lis
             enters = s.enters ∙ e;
             after = λ v o. (let a = s.after v o in let b = leads_bound (with_signs ps ss q) l.1 y l.5 v o in omega (arith, ints, a, b));
           } m)
-      | inr k ↦ both_sides_need q within ps ss is steps l.1.stream k.0 k.1 l.0 l.1 k.4 l.4 k.3 refl
+      | inr k ↦ both l.1.stream k.0 k.1 l.0 l.1 k.4 l.4 k.3 refl
           (both_free k.0 k.1 l.0 l.1 (leads_more ds x l.1 k.0 (leads_more ds x l.0 l.1 l.2 (step_leads ds l.0 l.1 l.4)) k.2) k.5 l.2 l.5) m
     ]
   ]
@@ -168,7 +166,7 @@ module _ (q : QueryValue) (within : IsWithinLimits q) (ps : List Pair) (ss : Lis
 
   module _ (x1 y1 x2 y2 : Attr) (k1 : IsStrict links x1 y1) (k2 : IsStrict links x2 y2) where
     -- the left side of the first is less than that of the second, which leads to the right side of the first
-    cross_lefts : x1.stream ≡ x2.stream → OneEnd ds x1 y1 x2 y2 → Bound ds (element.Attr x1) (element.Attr x2) (neg_ℤ (pos 1)) → Leads ds x2 y1 → NeedsStates (written q)
+    cross_lefts : x1.stream ≡ x2.stream → OneEnd ds x1 y1 x2 y2 → Bound ds (element.Attr x1) (element.Attr x2) (neg_ℤ (pos 1)) → Leads ds x2 y1 → ¬ P
     cross_lefts e end b p = path_needs x2 y1 (λ f. (strict_step (with_signs ps ss q) links are x1 y1 k1).across (e ∙ f)) p (by end) (λ s.
         absurd (stuck_beside k1.one k1.among k1.strict x1 y1 x2 y1 k1.left k1.right s e refl (neg_ℤ (pos 1)) (pos 0) b (λ v m. omega (arith, ints)) (omega (arith, ints))))
       where
@@ -177,7 +175,7 @@ module _ (q : QueryValue) (within : IsWithinLimits q) (ps : List Pair) (ss : Lis
         by (inr t) = down t.0
 
     -- or the right side of the first is less than that of the second
-    cross_rights : y1.stream ≡ y2.stream → OneEnd ds x1 y1 x2 y2 → Bound ds (element.Attr y1) (element.Attr y2) (neg_ℤ (pos 1)) → Leads ds x2 y1 → NeedsStates (written q)
+    cross_rights : y1.stream ≡ y2.stream → OneEnd ds x1 y1 x2 y2 → Bound ds (element.Attr y1) (element.Attr y2) (neg_ℤ (pos 1)) → Leads ds x2 y1 → ¬ P
     cross_rights e end b p = path_needs x2 y1 (λ f. (strict_step (with_signs ps ss q) links are x2 y2 k2).across (f ∙ e)) p (by end) (λ s.
         absurd (stuck_beside k2.one k2.among k2.strict x2 y2 x2 y1 k2.left k2.right s refl e (pos 0) (neg_ℤ (pos 1)) (λ v m. omega (arith, ints)) b (omega (arith, ints))))
       where
@@ -187,7 +185,7 @@ module _ (q : QueryValue) (within : IsWithinLimits q) (ps : List Pair) (ss : Lis
 
   module _ (place : ℕ) (x1 y1 x2 y2 : Attr) (k1 : IsStrict links x1 y1) (k2 : IsStrict links x2 y2) where
     -- the left side of each leads to the right side of the other
-    pub links_cross : OneSide place x1 y1 x2 y2 → OneEnd ds x1 y1 x2 y2 → AreApart ds place x1 y1 x2 y2 → Leads ds x2 y1 → Leads ds x1 y2 → NeedsStates (written q)
+    pub links_cross : OneSide place x1 y1 x2 y2 → OneEnd ds x1 y1 x2 y2 → AreApart ds place x1 y1 x2 y2 → Leads ds x2 y1 → Leads ds x1 y2 → ¬ P
     links_cross (lefts e f) end apart p r =
         elim (ordered q within ps ss is x1 x2 (strict_named x1 y1 k1).0 (strict_named x2 y2 k2).0 (e ∙ sym f) (strict_grouped x1 y1 k1 ∙ sym (leads_grouped q within ps ss is x2 y1 p)) (first_end end) (second_end end)) [
           | inl b ↦ cross_lefts x1 y1 x2 y2 k1 k2 (e ∙ sym f) end b p
@@ -221,25 +219,25 @@ module _ (q : QueryValue) (within : IsWithinLimits q) (ps : List Pair) (ss : Lis
         second_end (inl t) = inl (top_over ds x2 y2 (pos 0) (strict_bound (with_signs ps ss q) links are x2 y2 k2) t.1)
         second_end (inr t) = inr t.1
 
-    module _ (distinct : q.distinct ≡ true) where
+    module _ (beside : BesideTells q ps ss P) (opposed : OpposedTell q ps ss P) where
       -- both are free at one end
-      pub one_end_needs : OneSide place x1 y1 x2 y2 ⊎ OtherSides place x1 y1 x2 y2 → OneEnd ds x1 y1 x2 y2 → AreApart ds place x1 y1 x2 y2 → NeedsStates (written q)
+      pub one_end_needs : OneSide place x1 y1 x2 y2 ⊎ OtherSides place x1 y1 x2 y2 → OneEnd ds x1 y1 x2 y2 → AreApart ds place x1 y1 x2 y2 → ¬ P
       one_end_needs (inl o) end apart m = either {A = Leads ds x2 y1} (λ i. elim i [
         | inl p ↦ either {A = Leads ds x1 y2} (λ j. elim j [
           | inl r ↦ links_cross o end apart p r m
-          | inr n ↦ beside_need q within ps ss is steps distinct place x2 y2 x1 y1 (strict_step (with_signs ps ss q) links are x2 y2 k2) (strict_step (with_signs ps ss q) links are x1 y1 k1) (turned_side place x1 y1 x2 y2 o) (turned_end ds x1 y1 x2 y2 end) n m
+          | inr n ↦ beside place x2 y2 x1 y1 (strict_step (with_signs ps ss q) links are x2 y2 k2) (strict_step (with_signs ps ss q) links are x1 y1 k1) (turned_side place x1 y1 x2 y2 o) (turned_end ds x1 y1 x2 y2 end) n m
         ])
-        | inr n ↦ beside_need q within ps ss is steps distinct place x1 y1 x2 y2 (strict_step (with_signs ps ss q) links are x1 y1 k1) (strict_step (with_signs ps ss q) links are x2 y2 k2) o end n m
+        | inr n ↦ beside place x1 y1 x2 y2 (strict_step (with_signs ps ss q) links are x1 y1 k1) (strict_step (with_signs ps ss q) links are x2 y2 k2) o end n m
       ])
-      one_end_needs (inr (left_right e f)) end apart m = both_sides_need q within ps ss is steps place x1 y1 x2 y2 (strict_step (with_signs ps ss q) links are x1 y1 k1) (strict_step (with_signs ps ss q) links are x2 y2 k2) e f end m
+      one_end_needs (inr (left_right e f)) end apart m = both place x1 y1 x2 y2 (strict_step (with_signs ps ss q) links are x1 y1 k1) (strict_step (with_signs ps ss q) links are x2 y2 k2) e f end m
       one_end_needs (inr (right_left e f)) end apart m =
-          both_sides_need q within ps ss is steps place x2 y2 x1 y1 (strict_step (with_signs ps ss q) links are x2 y2 k2) (strict_step (with_signs ps ss q) links are x1 y1 k1) f e (turned_end ds x1 y1 x2 y2 end) m
+          both place x2 y2 x1 y1 (strict_step (with_signs ps ss q) links are x2 y2 k2) (strict_step (with_signs ps ss q) links are x1 y1 k1) f e (turned_end ds x1 y1 x2 y2 end) m
 
       -- the first is free upward, the second downward
-      pub two_ends_need : OneSide place x1 y1 x2 y2 ⊎ OtherSides place x1 y1 x2 y2 → AreApart ds place x1 y1 x2 y2 → NoTop ds x1 → NoBottom ds y2 → NeedsStates (written q)
+      pub two_ends_need : OneSide place x1 y1 x2 y2 ⊎ OtherSides place x1 y1 x2 y2 → AreApart ds place x1 y1 x2 y2 → NoTop ds x1 → NoBottom ds y2 → ¬ P
       two_ends_need o apart t b m = either {A = NoTop ds x2} (λ i. elim i [
         | inl s ↦ one_end_needs o (inl (t, s)) apart m
-        | inr n ↦ apart_need q within ps ss is steps distinct place x1 y1 x2 y2 (strict_step (with_signs ps ss q) links are x1 y1 k1) (side_one o) (strict_step (with_signs ps ss q) links are x2 y2 k2) (side_two o) t b (λ p. ends n p) m
+        | inr n ↦ opposed place x1 y1 x2 y2 (strict_step (with_signs ps ss q) links are x1 y1 k1) (side_one o) (strict_step (with_signs ps ss q) links are x2 y2 k2) (side_two o) t b (λ p. ends n p) m
       ])
         where
           side_one : OneSide place x1 y1 x2 y2 ⊎ OtherSides place x1 y1 x2 y2 → Side place x1 y1

@@ -11,14 +11,7 @@ use Rattle.sem_whole.specs.System.{Difference, Bound}
 use Rattle.sem_whole.specs.Ranges.{Range}
 use Rattle.sem_whole.specs.Kept.{IsLowest, IsHighest, IsRange}
 use Rattle.sem_whole.specs.Whole.{IsFinite}
-
--- no integer is as great as the column in each solution
-abbrev pub NoTop : List Difference → Attr → Type 0
-NoTop ds a = IsHighest ds a None
-
--- no integer is as small as the column in each solution
-abbrev pub NoBottom : List Difference → Attr → Type 0
-NoBottom ds a = IsLowest ds a None
+pub use Rattle.sem_split_bounds.specs.Steps.{NoTop, NoBottom}
 
 -- what is bounded from below by a column without a greatest value has none
 pub top_over : (ds : List Difference) (a b : Attr) (c : ℤ) → Bound ds (element.Attr a) (element.Attr b) c → NoTop ds a → NoTop ds b

@@ -14,6 +14,7 @@ pub mod UnlikeLinks
 pub mod MovedFamilies
 pub mod TwoQuestions
 pub mod CountedUnlike
+pub mod Telling
 pub mod PartsTell
 pub mod OpposedFamilies
 pub mod CrossedLinks
@@ -29,6 +30,8 @@ pub mod KeptOpen
 pub mod FarSteps
 pub mod NearRows
 pub mod NearFew
+pub mod Moves
+pub mod MotionNeeds
 pub mod Unbroken
 pub mod Bounded
 pub mod Deciding

@@ -26,7 +26,7 @@ pub record IsMotion (ds : List Difference) (m : Attr → ℤ) : Type 0 where
 abbrev pub moved : Assignment → (Attr → ℤ) → Assignment
 moved u m a = u a +ℤ m a
 
-value_moved : (u : Assignment) (m : Attr → ℤ) (x : Element) → value x (moved u m) ≡ value x u +ℤ by_side m x
+pub value_moved : (u : Assignment) (m : Attr → ℤ) (x : Element) → value x (moved u m) ≡ value x u +ℤ by_side m x
 value_moved u m (element.Attr a) = refl
 value_moved u m (element.Const k) = omega (arith, ints)
 

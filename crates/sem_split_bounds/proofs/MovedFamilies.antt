@@ -25,7 +25,7 @@ use Rattle.sem_split_bounds.proofs.Paths.{here, Step, step_leads, system_tight}
 use Rattle.sem_split_bounds.proofs.Ends.{NoTop, NoBottom, Free, up, down}
 use Rattle.sem_split_bounds.proofs.Reach.{IsAhead, IsBehind, raised_with, lowered_with}
 use Rattle.sem_split_bounds.proofs.Motions.{moved, moved_solves, moved_near, two_blocks, blocks_either, blocks_ahead, blocks_behind}
-use Rattle.sem_split_bounds.proofs.Parts.{IsPart}
+use Rattle.sem_split_bounds.proofs.Parts.{IsBase}
 use Rattle.sem_split_bounds.proofs.PartSolutions.{KeepsApart, holds_apart, base_solves, part_written, step_named, step_fails}
 use Rattle.sem_split_bounds.proofs.Spacing.{span, spread_of, stride, step_within, AreSpaced, steps_or_none, up_spaced, down_spaced, moved_apart}
 use Rattle.sem_split_bounds.proofs.FreeSteps.{AreOfQuery}
@@ -124,7 +124,7 @@ right_fails q place x y s e v w l =
     (refuted s.of.by (mixed place v w x) (mixed place v w y) (w x) (v y) (system_tight q s.of s.among)
     (mixed-other place v w x (λ f. s.across (f ∙ sym e))) (mixed-here place v w y e) l))
 
-module _ (q : QueryValue) (within : IsWithinLimits q) (ps : List Pair) (ss : List Sign) (is : IsPart q ps ss) where
+module _ (q : QueryValue) (within : IsWithinLimits q) (ps : List Pair) (ss : List Sign) (is : IsBase q ps ss) where
   abbrev ds : List Difference
   ds = system (with_signs ps ss q)
 

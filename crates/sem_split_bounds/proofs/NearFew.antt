@@ -139,7 +139,7 @@ unbroken-near-parts-have-few-states q within d unbroken = short-histories-are-fe
 }
 
 -- an evaluator of few states refutes that many are needed
-few_refute : (kind : Arrival → Type 0) (q : QueryValue) (e : Evaluator) → IsRightOn kind q e → HasFewStatesOn kind e → ¬ NeedsStatesOn kind q
+pub few_refute : (kind : Arrival → Type 0) (q : QueryValue) (e : Evaluator) → IsRightOn kind q e → HasFewStatesOn kind e → ¬ NeedsStatesOn kind q
 few_refute kind q e right few needs = needs (λ b all. (
     let o : HasFewForOn kind e b = few b in
     let m : 2 ^ o.n ≤ o.most = all e right o.n o.most o.states in

@@ -19,10 +19,11 @@ use Rattle.sem_split_bounds.proofs.Paths.{Leads, here, leads_more, Step, step_le
 use Rattle.sem_split_bounds.proofs.Ends.{NoTop, NoBottom, Free, up, down}
 use Rattle.sem_split_bounds.proofs.Reach.{Reach, ReachedBy, raised_with, lowered_with}
 use Rattle.sem_split_bounds.proofs.Motions.{moved, moved_solves, moved_near, two_blocks, blocks_first, blocks_second, blocks_ahead, blocks_behind, blocks_apart}
-use Rattle.sem_split_bounds.proofs.Parts.{IsPart}
+use Rattle.sem_split_bounds.proofs.Parts.{IsBase}
 use Rattle.sem_split_bounds.proofs.PartSolutions.{KeepsApart, holds_apart, base_solves, part_written, step_named}
 use Rattle.sem_split_bounds.proofs.Spacing.{span, stride, step_within, IsNoneOr, steps_or_none, up_spaced, down_spaced, apart_spaced, twice_or_none, twice_up_spaced, twice_down_spaced, moved_apart}
 use Rattle.sem_split_bounds.proofs.FreeSteps.{AreOfQuery}
+pub use Rattle.sem_split_bounds.specs.Steps.{OneEnd}
 use Rattle.sem_split_bounds.proofs.MovedFamilies.{written_formed, place_of, step_two, left_fails, right_fails}
 
 -- ---- numbers
@@ -125,11 +126,7 @@ sides_of_both place x1 y1 x2 y2 (at_left e) (at_right f) = inr (left_right e f)
 sides_of_both place x1 y1 x2 y2 (at_right e) (at_left f) = inr (right_left e f)
 sides_of_both place x1 y1 x2 y2 (at_right e) (at_right f) = inl (rights e f)
 
--- both lack a greatest value, or both a least
-abbrev pub OneEnd : List Difference → Attr → Attr → Attr → Attr → Type 0
-OneEnd ds x1 y1 x2 y2 = (NoTop ds x1 × NoTop ds x2) ⊎ (NoBottom ds y1 × NoBottom ds y2)
-
-module _ (q : QueryValue) (within : IsWithinLimits q) (ps : List Pair) (ss : List Sign) (is : IsPart q ps ss) (steps : AreOfQuery q ps ss) (distinct : q.distinct ≡ true) where
+module _ (q : QueryValue) (within : IsWithinLimits q) (ps : List Pair) (ss : List Sign) (is : IsBase q ps ss) (steps : AreOfQuery q ps ss) (distinct : q.distinct ≡ true) where
   abbrev ds : List Difference
   ds = system (with_signs ps ss q)
 

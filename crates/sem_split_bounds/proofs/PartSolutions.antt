@@ -1,5 +1,5 @@
--- What each solution of the system of a part has: its signs and, where it meets the `<>` between streams, all comparisons and domains.
-use Rattle.std.proofs.Common.{◌≡◌, ℕ, nat_eq, pos, ◌+ℤ◌, ◌-ℤ◌, ◌<ℤ◌, inl, inr, Bool, true, false, not, cond, List, [], ◌∷◌, ◌++◌, refl, sym, ◌∙◌, ap, subst, arith}
+-- What each solution of the system of a part has: its signs and, where it meets each `<>`, all comparisons and domains.
+use Rattle.std.proofs.Common.{◌≡◌, ℕ, pos, ◌+ℤ◌, ◌-ℤ◌, ◌<ℤ◌, inl, inr, true, false, List, [], ◌∷◌, ◌++◌, refl, sym, ◌∙◌, ap, subst, arith}
 use Rattle.std.specs.List.{flat_map}
 use Rattle.std.proofs.lemmas.Int.{ints}
 use Rattle.std.proofs.lemmas.List.Elements.{All-contains}
@@ -11,30 +11,29 @@ use Rattle.sem_query.specs.declared.atom.Element.TheVariants as element
 use Rattle.sem_query.specs.declared.atom.Op.{Op}
 use Rattle.sem_query.specs.declared.part.Pair.{Pair}
 use Rattle.sem_query.specs.declared.part.Sign.{Sign}
-use Rattle.sem_query.specs.Query.{QueryValue, attrs_of, attr_lt, consts_of, HasAttr, IsWithinLimits}
+use Rattle.sem_query.specs.Query.{QueryValue, attrs_of, consts_of, HasAttr, IsWithinLimits}
 use Rattle.sem_query.specs.Assignment.{Assignment, value, lies_in, holds, AtomHolds, Holds, KeepsDomains}
-use Rattle.sem_query.specs.Parts.{pair, pair_of, sign_at}
+use Rattle.sem_query.specs.Parts.{pair_of, sign_at}
 use Rattle.sem_query.proofs.Has.{Has, first, later, Has-nil, same_at, Contains-from_has, Has-append_left, Has-append_right, Has-append_cases, Has-flat_map, Has-flat_map_from}
 use Rattle.sem_query.proofs.Holding.{Holds-each, Holds-from_each}
 use Rattle.sem_query.proofs.Domains.{keeps_each, each_keeps, lies, lies_low, lies_high}
 use Rattle.sem_query.proofs.Elements.{HasElement, SidesIn, sides_in}
-use Rattle.sem_laws.proofs.Tests.{true_or_false, false_if}
+use Rattle.sem_laws.proofs.Tests.{false_if}
 use Rattle.sem_laws.specs.Cases.{atom}
 use Rattle.plan_constraints.specs.Soft.{denies_itself}
 use Rattle.plan_constraints.proofs.Softly.{denied_fails}
 use Rattle.plan_split_pairs.specs.Pairs.{split_pairs}
 use Rattle.plan_split_pairs.specs.SplitParts.{IsSplitPart}
 use Rattle.plan_split_pairs.proofs.Naming.{unlikes_are_pairs}
-use Rattle.plan_split_parts.proofs.Unlike.{one_pair, unlike_holds, unlike_sign}
+use Rattle.plan_split_parts.proofs.Unlike.{unlike_holds, unlike_sign}
 use Rattle.sem_whole.specs.System.{Difference, atom_bounds, domain_bounds, system, Solves}
-use Rattle.sem_whole.specs.Links.{are_across}
 use Rattle.sem_whole.specs.Signed.{with_signs, all_said}
 use Rattle.sem_whole.proofs.Suffice.{met_holds, bounds_sides, atom_says, atom_if, solves_query}
 use Rattle.sem_whole.proofs.Signed.{said_no_unlike, signs_are_said, signed_holds, solutions_satisfy}
 use Rattle.sem_forms.specs.Split.{part_query}
 use Rattle.sem_lower_bounds.specs.Within.{as_comparisons, written}
 use Rattle.sem_split_bounds.proofs.Paths.{Step}
-use Rattle.sem_split_bounds.proofs.Parts.{IsPart, split_part}
+use Rattle.sem_split_bounds.proofs.Parts.{IsBase, based, split_part}
 
 -- ---- the domains as comparisons
 
@@ -92,47 +91,27 @@ step_fails q v x y s l = false_if (holds (written q) v) (λ h.
     let f : value s.of.right v ≡ v y = ap (λ z. value z v) s.right in
     omega (arith, ints, l, m, e, f))
 
--- ---- the pair of a comparison
-
-stream_turned : (m n : ℕ) → nat_eq m n ≡ nat_eq n m
-stream_turned m n = grind arith
-
--- it is of two streams where the sides of the comparison are
-pub pair_across : (x y : Element) (p : Pair) → Has (pair_of x y) p → are_across (element.Attr p.left) p.right ≡ are_across x y
-pair_across (element.Attr a) (element.Attr b) p h = by (attr_lt a b) (attr_lt b a) h
-  where
-    by : (c d : Bool) → Has (cond {A = List Pair} c (pair a (element.Attr b) ∷ []) (cond d (pair b (element.Attr a) ∷ []) [])) p
-        → are_across (element.Attr p.left) p.right ≡ not (nat_eq a.stream b.stream)
-    by true d k = ap (λ p. are_across (element.Attr p.left) p.right) (sym (one_pair (pair a (element.Attr b)) p k))
-    by false true k = ap (λ p. are_across (element.Attr p.left) p.right) (sym (one_pair (pair b (element.Attr a)) p k)) ∙ ap not (stream_turned b.stream a.stream)
-    by false false k = Has-nil k
-pair_across (element.Attr a) (element.Const k) p first = refl
-pair_across (element.Attr a) (element.Const k) p (later h) = Has-nil h
-pair_across (element.Const k) (element.Attr a) p first = refl
-pair_across (element.Const k) (element.Attr a) p (later h) = Has-nil h
-pair_across (element.Const j) (element.Const k) p h = Has-nil h
-
 -- ---- the solutions of a part
 
--- each `<>` between streams is met
+-- each `<>` is met
 abbrev pub KeepsApart : QueryValue → Assignment → Type 0
-KeepsApart q v = (t : Atom) → Has q.atoms t → t.op ≡ Op.Ne → are_across t.left t.right ≡ true → AtomHolds v t
+KeepsApart q v = (t : Atom) → Has q.atoms t → t.op ≡ Op.Ne → AtomHolds v t
 
 pub holds_apart : (q : QueryValue) (v : Assignment) → Holds q v → KeepsApart q v
-holds_apart q v h t i e c = Holds-each q v h t i
+holds_apart q v h t i e = Holds-each q v h t i
 
 -- the pair of a `<>` is a split pair
 pub unlike_split : (q : QueryValue) → IsWithinLimits q → (t : Atom) → Has q.atoms t → t.op ≡ Op.Ne → (p : Pair) → Has (pair_of t.left t.right) p → Has (split_pairs q) p
 unlike_split q within t h e p i = let b = unlikes_are_pairs q within in subst (λ ps. Has ps p) (sym b.joined) (Has-append_left b.others (b.each t h e p i))
 
-module _ (q : QueryValue) (within : IsWithinLimits q) (ps : List Pair) (ss : List Sign) (is : IsPart q ps ss) where
+module _ (q : QueryValue) (within : IsWithinLimits q) (ps : List Pair) (ss : List Sign) (is : IsBase q ps ss) where
   -- the assignment that has the signs is one
   pub base_solves : Solves (system (with_signs ps ss q)) is.one
-  base_solves = solves_query (with_signs ps ss q) is.one ((signed_holds q ps ss is.signed.same is.one).1 (is.holds, is.has)) is.domains
+  base_solves = solves_query (with_signs ps ss q) is.one ((signed_holds q ps ss is.same is.one).1 (is.holds, is.has)) is.domains
 
   -- each has the same signs
   pub signs_alike : (v : Assignment) → Solves (system (with_signs ps ss q)) v → (p : Pair) → Has ps p → sign_at v p ≡ sign_at is.one p
-  signs_alike v s p h = same_at (sign_at v) (sign_at is.one) ((signs_are_said v ps ss is.signed.same).1 says ∙ sym is.has) h
+  signs_alike v s p h = same_at (sign_at v) (sign_at is.one) ((signs_are_said v ps ss is.same).1 says ∙ sym is.has) h
     where
       says : (t : Atom) → Has (all_said ps ss) t → AtomHolds v t
       says t i = atom_if v t (met_holds t.op t.left t.right v (said_no_unlike ps ss t i) (λ d k. s d
@@ -147,28 +126,21 @@ module _ (q : QueryValue) (within : IsWithinLimits q) (ps : List Pair) (ss : Lis
       at_base : AtomHolds is.one t
       at_base = Holds-each q is.one is.holds t h
 
-  -- of two streams, or one of the part
-  unlike_met : (v : Assignment) → Solves (system (with_signs ps ss q)) v → KeepsApart q v → (t : Atom) → Has q.atoms t → t.op ≡ Op.Ne → AtomHolds v t
-  unlike_met v s apart t h e = elim (true_or_false (are_across t.left t.right)) [
-    | inl c ↦ apart t h e c
-    | inr c ↦ paired_met v s t h e (λ p i. is.own p (unlike_split q within t h e p i) (pair_across t.left t.right p i ∙ c))
-  ]
-
-  -- and satisfies the query within its domains
+  -- one that meets each `<>` satisfies the query within its domains
   pub part_satisfies : (v : Assignment) → Solves (system (with_signs ps ss q)) v → KeepsApart q v → Holds q v × KeepsDomains q v
   part_satisfies v s apart =
       let r = solutions_satisfy (with_signs ps ss q) v s (λ t h e. elim (Has-append_cases (all_said ps ss) q.atoms t h) [
         | inl i ↦ absurd (said_no_unlike ps ss t i e)
-        | inr i ↦ unlike_met v s apart t i e
+        | inr i ↦ apart t i e
       ]) in
-      (((signed_holds q ps ss is.signed.same v).0 r.0).0, r.1)
+      (((signed_holds q ps ss is.same v).0 r.0).0, r.1)
 
   pub part_written : (v : Assignment) → Solves (system (with_signs ps ss q)) v → KeepsApart q v → Holds (written q) v
   part_written v s apart = let r = part_satisfies v s apart in written_if q v r.0 r.1
 
 -- of a split part each solution does, since the sign of the pair of each `<>` is said
 pub solution_written : (q : QueryValue) (within : IsWithinLimits q) (ss : List Sign) → IsSplitPart q ss → (v : Assignment) → Solves (system (part_query q ss)) v → Holds (written q) v
-solution_written q within ss is v s = part_written q within (split_pairs q) ss (split_part q within ss is) v s apart
+solution_written q within ss is v s = part_written q within (split_pairs q) ss base v s (λ t h e. paired_met q within (split_pairs q) ss base v s t h e (unlike_split q within t h e))
   where
-    apart : KeepsApart q v
-    apart t h e c = paired_met q within (split_pairs q) ss (split_part q within ss is) v s t h e (unlike_split q within t h e)
+    base : IsBase q (split_pairs q) ss
+    base = based q (split_pairs q) ss (split_part q within ss is)

@@ -18,7 +18,15 @@ use Rattle.sem_whole.proofs.Signed.{signed_well_formed}
 use Rattle.sem_forms.proofs.PartQueries.{as_many_signs, split_pairs_are_signed}
 use Rattle.sem_split_bounds.specs.Near.{near_pairs, IsNearPart}
 
--- some assignment that satisfies the query within its domains gives these signs to these split pairs, among which are all that are not of two streams
+-- some assignment that satisfies the query within its domains gives these signs to these pairs
+pub record IsBase (q : QueryValue) (ps : List Pair) (ss : List Sign) : Type 0 where
+  pub one : Assignment
+  pub holds : Holds q one
+  pub domains : KeepsDomains q one
+  pub has : map (sign_at one) ps ≡ ss
+  pub same : length ps ≡ length ss
+
+-- to split pairs, among which are all that are not of two streams
 pub record IsPart (q : QueryValue) (ps : List Pair) (ss : List Sign) : Type 0 where
   pub one : Assignment
   pub holds : Holds q one
@@ -27,6 +35,9 @@ pub record IsPart (q : QueryValue) (ps : List Pair) (ss : List Sign) : Type 0 wh
   pub signed : AreSignedPairs q ps ss
   pub from : (p : Pair) → Has ps p → Has (split_pairs q) p
   pub own : (p : Pair) → Has (split_pairs q) p → are_across (element.Attr p.left) p.right ≡ false → Has ps p
+
+abbrev pub based : (q : QueryValue) (ps : List Pair) (ss : List Sign) → IsPart q ps ss → IsBase q ps ss
+based q ps ss is = record { one = is.one; holds = is.holds; domains = is.domains; has = is.has; same = is.signed.same }
 
 pub part_well_formed : (q : QueryValue) → IsWithinLimits q → (ps : List Pair) (ss : List Sign) → IsPart q ps ss → IsWellFormed (with_signs ps ss q)
 part_well_formed q within ps ss is = signed_well_formed q ps ss within is.signed

@@ -1,4 +1,4 @@
--- A part that breaks the first or the second condition, or without DISTINCT any, tells that its query needs many states.
+-- A part that breaks the first or the second condition, or without DISTINCT any, tells; so its query needs many states.
 use Rattle.std.proofs.Common.{◌≡◌, ◌≢◌, ℕ, pos, ◌⊎◌, inl, inr, List, refl, sym, subst}
 use Rattle.std.specs.Prelude.{IsFalse}
 use Rattle.sem_query.specs.declared.atom.Atom.{Atom}
@@ -31,47 +31,37 @@ use Rattle.sem_split_bounds.specs.Refused.{BrokenPartsTell, CountedPartsTell}
 use Rattle.sem_split_bounds.proofs.Paths.{Leads, Step, step_leads, leads_bound, leaving, entering}
 use Rattle.sem_split_bounds.proofs.Ends.{NoTop, NoBottom, Free, up, down, top_over, bottom_under, open_ends}
 use Rattle.sem_split_bounds.proofs.Motions.{tight}
-use Rattle.sem_split_bounds.proofs.Parts.{IsPart, split_part, part_well_formed}
+use Rattle.sem_split_bounds.proofs.Parts.{IsPart, based, split_part, part_well_formed}
 use Rattle.sem_split_bounds.proofs.PartSolutions.{base_solves}
 use Rattle.sem_split_bounds.proofs.FreeSteps.{step_of_query}
 use Rattle.sem_split_bounds.proofs.OpenLinks.{strict_not_unlike, link_op, link_steps, equal_steps, OpenLink, open_link}
 use Rattle.sem_split_bounds.proofs.UnlikeLinks.{no_unlike_link}
 use Rattle.sem_split_bounds.proofs.MovedFamilies.{open_column_needs, both_sides_need}
+use Rattle.sem_split_bounds.proofs.Telling.{NeedsNone, ColumnTells, TwoSidesTell, OneStepTells}
 use Rattle.sem_split_bounds.proofs.CountedUnlike.{counted_step_needs}
 
--- two differences of a part, on both sides of one stream and without an end at the same side, are enough
-abbrev pub TwoSidesNeed : QueryValue → List Pair → List Sign → Type 0
-TwoSidesNeed q ps ss =
-    (place : ℕ) (x1 y1 x2 y2 : Attr) → Step (system (with_signs ps ss q)) x1 y1 → Step (system (with_signs ps ss q)) x2 y2 → x1.stream ≡ place → y2.stream ≡ place
-    → (NoTop (system (with_signs ps ss q)) x1 × NoTop (system (with_signs ps ss q)) x2) ⊎ (NoBottom (system (with_signs ps ss q)) y1 × NoBottom (system (with_signs ps ss q)) y2)
-    → NeedsStates (written q)
-
--- or one that an end leaves free
-abbrev pub OneStepNeeds : QueryValue → List Pair → List Sign → Type 0
-OneStepNeeds q ps ss = (x y : Attr) → Step (system (with_signs ps ss q)) x y → Free (system (with_signs ps ss q)) x y → NeedsStates (written q)
-
-module _ (q : QueryValue) (within : IsWithinLimits q) (ps : List Pair) (ss : List Sign) (is : IsPart q ps ss) (joins : IsFalse (is_filter q)) where
+module _ (q : QueryValue) (within : IsWithinLimits q) (ps : List Pair) (ss : List Sign) (is : IsPart q ps ss) (P : Type 0) (column : ColumnTells q ps ss P) where
   abbrev r : QueryValue
   r = with_signs ps ss q
 
   abbrev ds : List Difference
   ds = system r
 
-  pub selected_breaks : (links : List Atom) (a : Attr) → WholeBreaks r links C1 a → NeedsStates (written q)
-  selected_breaks links a b = open_column_needs q within ps ss is joins a b.0 (open_ends ds a b.1.0 b.1.1 b.1.2)
+  pub selected_breaks : (links : List Atom) (a : Attr) → WholeBreaks r links C1 a → ¬ P
+  selected_breaks links a b = column a b.0 (open_ends ds a b.1.0 b.1.1 b.1.2)
 
   -- all links of the part, and some of them, none of which is `<>`
   module _ (all : List Atom) (are : AreLinks r all) (links : List Atom) (from : (t : Atom) → Has links t → Has all t)
-      (none : (t : Atom) → Has links t → t.op ≡ Op.Ne → ⊥) (two_sides_need : TwoSidesNeed q ps ss) where
+      (none : (t : Atom) → Has links t → t.op ≡ Op.Ne → ⊥) (two_sides_need : TwoSidesTell q ps ss P) where
     -- x and y lead to each other, and lack an end
-    equals_need : (x y : Attr) → Step ds x y → Step ds y x → NoTop ds x ⊎ NoBottom ds x → NeedsStates (written q)
+    equals_need : (x y : Attr) → Step ds x y → Step ds y x → NoTop ds x ⊎ NoBottom ds x → ¬ P
     equals_need x y s t (inl n) =
         two_sides_need x.stream x y y x s t refl refl (inl (n, top_over ds x y (pos 0) (leads_bound r x y (step_leads ds x y s)) n))
     equals_need x y s t (inr n) =
         two_sides_need x.stream x y y x s t refl refl (inr (bottom_under ds y x (pos 0) (leads_bound r y x (step_leads ds y x t)) n, n))
 
     -- differences lead from a to a column of another stream and back
-    circle_needs : (a b : Attr) → b.stream ≢ a.stream → Leads ds a b → Leads ds b a → NoTop ds a ⊎ NoBottom ds a → NeedsStates (written q)
+    circle_needs : (a b : Attr) → b.stream ≢ a.stream → Leads ds a b → Leads ds b a → NoTop ds a ⊎ NoBottom ds a → ¬ P
     circle_needs a b n p k o = elim (leaving ds a b p) [
       | inl e ↦ absurd (n (sym e))
       | inr l ↦ elim (entering ds b a k) [
@@ -91,19 +81,19 @@ module _ (q : QueryValue) (within : IsWithinLimits q) (ps : List Pair) (ss : Lis
 
     -- equal to a column of another stream, a column without an end
     equal_needs : (a b : Attr) → b.stream ≢ a.stream → Bound ds (element.Attr a) (element.Attr b) (pos 0) → Bound ds (element.Attr b) (element.Attr a) (pos 0)
-        → NoTop ds a ⊎ NoBottom ds a → NeedsStates (written q)
+        → NoTop ds a ⊎ NoBottom ds a → ¬ P
     equal_needs a b n below above (inl t) m =
-        tight r is.one (base_solves q within ps ss is) a b (pos 0) (up t) below (λ p.
-        tight r is.one (base_solves q within ps ss is) b a (pos 0) (up (top_over ds a b (pos 0) below t)) above (λ k.
+        tight r is.one (base_solves q within ps ss (based q ps ss is)) a b (pos 0) (up t) below (λ p.
+        tight r is.one (base_solves q within ps ss (based q ps ss is)) b a (pos 0) (up (top_over ds a b (pos 0) below t)) above (λ k.
         circle_needs a b n p k (inl t) m))
     equal_needs a b n below above (inr t) m =
-        tight r is.one (base_solves q within ps ss is) a b (pos 0) (down (bottom_under ds b a (pos 0) above t)) below (λ p.
-        tight r is.one (base_solves q within ps ss is) b a (pos 0) (down t) above (λ k.
+        tight r is.one (base_solves q within ps ss (based q ps ss is)) a b (pos 0) (down (bottom_under ds b a (pos 0) above t)) below (λ p.
+        tight r is.one (base_solves q within ps ss (based q ps ss is)) b a (pos 0) (down t) above (λ k.
         circle_needs a b n p k (inr t) m))
 
     -- a class that is kept as it is and lacks an end
-    unended_needs : (a : Attr) → NoTop ds a ⊎ NoBottom ds a → IsKeptAsItIs r links a → NeedsStates (written q)
-    unended_needs a o (kept.selected b c h) = open_column_needs q within ps ss is joins b h (elim o [
+    unended_needs : (a : Attr) → NoTop ds a ⊎ NoBottom ds a → IsKeptAsItIs r links a → ¬ P
+    unended_needs a o (kept.selected b c h) = column b h (elim o [
       | inl t ↦ inl (top_over ds a b (pos 0) c.below t)
       | inr t ↦ inr (bottom_under ds b a (pos 0) c.above t)
     ])
@@ -115,26 +105,26 @@ module _ (q : QueryValue) (within : IsWithinLimits q) (ps : List Pair) (ss : Lis
           | inr t ↦ inr (bottom_under ds b a (pos 0) c.above t)
         ]
 
-        at : AreColumnsOf r t → NeedsStates (written q)
+        at : AreColumnsOf r t → ¬ P
         at k = elim s [
           | inl i ↦ (let m = equal_steps r all are t (from t h) b k.right.attr i k.right.is e in equals_need b k.right.attr m.0 m.1 over)
           | inr i ↦ (let m = equal_steps r all are t (from t h) k.left.attr b k.left.is i e in equals_need b k.left.attr m.1 m.0 over)
         ]
     unended_needs a o (kept.equal b h n below above) = equal_needs a b n below above o
 
-    kept_breaks : (a : Attr) → IsOpenSide r links a → IsKeptAsItIs r links a → NeedsStates (written q)
+    kept_breaks : (a : Attr) → IsOpenSide r links a → IsKeptAsItIs r links a → ¬ P
     kept_breaks a o i =
         let k : IsKeptRange r links a o.unbounded.0 = o.unbounded.1 in
         let e : o.unbounded.0 ≡ k.own = kept_own_range r links a o.unbounded.0 k i in
         unended_needs a (open_ends ds a k.own k.is_own (λ f. o.unbounded.2 (subst IsFinite (sym e) f))) i
 
-    counted_breaks : OneStepNeeds q ps ss → (a : Attr) → IsOpenSide r links a → (IsKeptAsItIs r links a → ⊥) → NeedsStates (written q)
+    counted_breaks : OneStepTells q ps ss P → (a : Attr) → IsOpenSide r links a → (IsKeptAsItIs r links a → ⊥) → ¬ P
     counted_breaks one a o n =
         let l : OpenLink r links a = open_link r links (λ t h. link_op r all are t (from t h)) none a o.unbounded n in
         one l.x l.y (link_steps r all are l.link (from l.link l.among) l.x l.y l.left l.right (strict_not_unlike l.link.op l.strict_or)) l.free
 
     -- by the first or the second condition, or where one free difference is enough by any
-    pub breaks_need : (c : Condition) (a : Attr) → WholeBreaks r links c a → (c ≢ C3) ⊎ OneStepNeeds q ps ss → NeedsStates (written q)
+    pub breaks_need : (c : Condition) (a : Attr) → WholeBreaks r links c a → (c ≢ C3) ⊎ OneStepTells q ps ss P → ¬ P
     breaks_need C1 a b o = selected_breaks links a b
     breaks_need C2 a b o = elim b.1 [
       | inl i ↦ kept_breaks a b.0 i
@@ -146,16 +136,17 @@ module _ (q : QueryValue) (within : IsWithinLimits q) (ps : List Pair) (ss : Lis
 -- ---- split parts
 
 module _ (q : QueryValue) (within : IsWithinLimits q) (ss : List Sign) (is : IsSplitPart q ss) (joins : IsFalse (is_filter q)) (told : HasToldUnlikes q) where
-  split_sides_need : TwoSidesNeed q (split_pairs q) ss
+  split_sides_need : TwoSidesTell q (split_pairs q) ss (NeedsNone q)
   split_sides_need place x1 y1 x2 y2 s1 s2 e1 e2 o m = elim told [
-    | inl closed ↦ both_sides_need q within (split_pairs q) ss (split_part q within ss is) (step_of_query q within (split_pairs q) ss (split_part q within ss is) closed)
+    | inl closed ↦ both_sides_need q within (split_pairs q) ss (based q (split_pairs q) ss (split_part q within ss is)) (step_of_query q within (split_pairs q) ss (split_part q within ss is) closed)
         place x1 y1 x2 y2 s1 s2 e1 e2 o m
     | inr d ↦ counted_step_needs q within ss is joins d x1 y1 s1 (elim o [ inl t ↦ up t.0 | inr t ↦ down t.0 ]) m
   ]
 
 pub broken-parts-tell : BrokenPartsTell
 broken-parts-tell q within joins told ss is links are c a b o =
-    (written-decides-at q (formed q within)).1 (breaks_need q within (split_pairs q) ss (split_part q within ss is) joins links are links (λ t h. h) (no_unlike_link q within ss is links are)
+    (written-decides-at q (formed q within)).1 (breaks_need q within (split_pairs q) ss (split_part q within ss is) (NeedsNone q)
+    (open_column_needs q within (split_pairs q) ss (based q (split_pairs q) ss (split_part q within ss is)) joins) links are links (λ t h. h) (no_unlike_link q within ss is links are)
     (split_sides_need q within ss is joins told) c a b (elim o [ inl n ↦ inl n | inr d ↦ inr (counted_step_needs q within ss is joins d) ]))
 
 pub counted-parts-tell : CountedPartsTell

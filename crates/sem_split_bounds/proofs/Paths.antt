@@ -12,6 +12,7 @@ use Rattle.sem_query.specs.Assignment.{value}
 use Rattle.sem_query.proofs.Has.{Has, first, later, Has-nil, Has-append_cases, Has-flat_map_from}
 use Rattle.sem_laws.proofs.Tests.{true_or_false, nat_true}
 use Rattle.sem_whole.specs.System.{Difference, bounds_of, atom_bounds, domain_bounds, system, Bound}
+pub use Rattle.sem_split_bounds.specs.Steps.{Step}
 
 -- a path of differences from the first column to the second
 pub data Leads (ds : List Difference) : Attr → Attr → Type 0 where
@@ -59,14 +60,6 @@ leads_bound q a b (onward {b = m} d h l r p) v s =
     let y : value d.right v ≡ v m = ap (λ e. value e v) r in
     let k = leads_bound q m b p v s in
     omega (arith, ints, t, o, x, y, k)
-
--- a difference between columns of two streams
-pub record Step (ds : List Difference) (x y : Attr) : Type 0 where
-  pub of : Difference
-  pub among : Has ds of
-  pub left : of.left ≡ element.Attr x
-  pub right : of.right ≡ element.Attr y
-  pub across : x.stream ≢ y.stream
 
 pub step_leads : (ds : List Difference) (x y : Attr) → Step ds x y → Leads ds x y
 step_leads ds x y s = onward {b = y} s.of s.among s.left s.right here

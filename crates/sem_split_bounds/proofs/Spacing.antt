@@ -4,6 +4,8 @@ use Rattle.std.specs.List.{flat_map}
 use Rattle.std.proofs.lemmas.Int.{ints}
 use Rattle.sem_query.specs.declared.atom.Atom.{Atom}
 use Rattle.sem_query.specs.declared.atom.Attr.{Attr}
+use Rattle.sem_query.specs.declared.atom.Element.{Element}
+use Rattle.sem_query.specs.declared.atom.Element.TheVariants as element
 use Rattle.sem_query.specs.Query.{QueryValue}
 use Rattle.sem_query.specs.Assignment.{Assignment, value}
 use Rattle.sem_query.proofs.Has.{Has, first, later, Has-append_cases, Has-flat_map_from}
@@ -11,9 +13,9 @@ use Rattle.sem_query.proofs.Holding.{Compares}
 use Rattle.sem_whole.specs.System.{atom_bounds, domain_bounds, system}
 use Rattle.sem_whole.proofs.Suffice.{atom_says, atom_if}
 use Rattle.sem_split_bounds.proofs.Paths.{Step}
-use Rattle.sem_split_bounds.proofs.Motions.{moved, two_blocks}
+use Rattle.sem_split_bounds.proofs.Motions.{by_side, moved, value_moved, two_blocks}
 use Rattle.sem_split_bounds.proofs.PartSolutions.{domain_apart, KeepsApart}
-use Rattle.sem_split_bounds.proofs.Standing.{sides_of, sides_columns}
+use Rattle.sem_split_bounds.proofs.Standing.{sides_of}
 
 -- ---- how far values are apart
 
@@ -124,26 +126,41 @@ blocks_spaced d f g x y l m n a b = by (f a) (g a) (f b) (g b)
     by false false false true = spaced_back d y (pos 0) m
     by false false false false = inl refl
 
+lone_spaced : (d : ℕ) (f g : Attr → Bool) (x y : ℤ) → AreSpaced d x (pos 0) → AreSpaced d y (pos 0) → (a : Attr) → AreSpaced d (two_blocks f g x y a) (pos 0)
+unfolding two_blocks
+lone_spaced d f g x y l m a = by (f a) (g a)
+  where
+    by : (h i : Bool) → AreSpaced d (cond h x (cond i y (pos 0))) (pos 0)
+    by true i = l
+    by false true = m
+    by false false = inl refl
+
+-- of elements too: an integer is not moved
+sides_spaced : (d : ℕ) (f g : Attr → Bool) (x y : ℤ) → AreSpaced d x (pos 0) → AreSpaced d y (pos 0) → AreSpaced d x y
+    → (a b : Element) → AreSpaced d (by_side (two_blocks f g x y) a) (by_side (two_blocks f g x y) b)
+sides_spaced d f g x y l m n (element.Attr a) (element.Attr b) = blocks_spaced d f g x y l m n a b
+sides_spaced d f g x y l m n (element.Attr a) (element.Const k) = lone_spaced d f g x y l m a
+sides_spaced d f g x y l m n (element.Const k) (element.Attr b) = spaced_back d (two_blocks f g x y b) (pos 0) (lone_spaced d f g x y l m b)
+sides_spaced d f g x y l m n (element.Const j) (element.Const k) = inl refl
+
 -- less than so far apart and not equal, and moved by spaced numbers
 still_differ : (d : ℕ) (a b x y : ℤ) → a ≢ b → span a b < d → AreSpaced d x y → (a +ℤ x) ≢ (b +ℤ y)
 still_differ d a b x y n s (inl e) f = n (omega (arith, ints, e, f))
 still_differ d a b x y n s (inr (inl l)) f = omega (arith, ints, s, l, f)
 still_differ d a b x y n s (inr (inr l)) f = omega (arith, ints, s, l, f)
 
--- each `<>` between streams that is met stays so
+-- each `<>` that is met stays so
 pub moved_apart : (q : QueryValue) (u : Assignment) → KeepsApart q u → (f g : Attr → Bool) (x y : ℤ)
     → AreSpaced (stride q u) x (pos 0) → AreSpaced (stride q u) y (pos 0) → AreSpaced (stride q u) x y → KeepsApart q (moved u (two_blocks f g x y))
-moved_apart q u apart f g x y l m n t h e c =
-    let s = sides_columns t.left t.right c in
+moved_apart q u apart f g x y l m n t h e =
     atom_if w t (subst (λ o. Compares o (value t.left w) (value t.right w)) (sym e) (λ k.
-    still_differ (stride q u) (u s.0) (u s.1) (two_blocks f g x y s.0) (two_blocks f g x y s.1)
-    (λ i. differed (ap (λ z. value z u) s.2 ∙ i ∙ sym (ap (λ z. value z u) s.3)))
-    (within_spread (value t.left u) (value t.right u) (u s.0) (u s.1) (spread_of u q.atoms) (sides_spread u q.atoms t h) (ap (λ z. value z u) s.2) (ap (λ z. value z u) s.3))
-    (blocks_spaced (stride q u) f g x y l m n s.0 s.1)
-    (sym (ap (λ z. value z w) s.2) ∙ k ∙ ap (λ z. value z w) s.3)))
+    still_differ (stride q u) (value t.left u) (value t.right u) (by_side (two_blocks f g x y) t.left) (by_side (two_blocks f g x y) t.right) differed
+    (within_spread (value t.left u) (value t.right u) (value t.left u) (value t.right u) (spread_of u q.atoms) (sides_spread u q.atoms t h) refl refl)
+    (sides_spaced (stride q u) f g x y l m n t.left t.right)
+    (sym (value_moved u (two_blocks f g x y) t.left) ∙ k ∙ value_moved u (two_blocks f g x y) t.right)))
   where
     w : Assignment
     w = moved u (two_blocks f g x y)
 
     differed : value t.left u ≢ value t.right u
-    differed = subst (λ o. Compares o (value t.left u) (value t.right u)) e (atom_says u t (apart t h e c))
+    differed = subst (λ o. Compares o (value t.left u) (value t.right u)) e (atom_says u t (apart t h e))

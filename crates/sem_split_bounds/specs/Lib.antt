@@ -1,3 +1,4 @@
+pub mod Steps
 pub mod Split
 pub mod Refused
 pub mod Accepted
@@ -5,3 +6,4 @@ pub mod Near
 pub mod NearExact
 pub mod Verdicts
 pub mod Cells
+pub mod Moving

@@ -1,6 +1,7 @@
 //! What the parts of the split form of a query tell of its states.
 ghost use Rattle.sem_split_bounds.specs.Accepted.{UnbrokenPartsHaveFewStates, UnbrokenPartsNeedFewStates};
 ghost use Rattle.sem_split_bounds.specs.Cells.{CellsDoNotTell};
+ghost use Rattle.sem_split_bounds.specs.Moving.{BrokenPartsMove, NearBreaksMove, StillQueriesHaveFewStates, MotionDecides};
 ghost use Rattle.sem_split_bounds.specs.Near.{NearPartsNeedStates};
 ghost use Rattle.sem_split_bounds.specs.NearExact.{UnbrokenNearPartsHaveFewStates, NearConditionsAreExact};
 ghost use Rattle.sem_split_bounds.specs.Refused.{FirstConditionTells, BrokenPartsTell, CountedPartsTell};
@@ -80,4 +81,26 @@ pub fn compact_verdicts_are_exact()
 /// each cell, and a row is answered differently after them.
 pub fn cells_do_not_tell()
     ensures { CellsDoNotTell }
+{}
+
+/// Where a part of the split form of a query breaks a condition, values of the query move: that none do is absurd. With DISTINCT each `<>` between streams has a
+/// side with both ends by the text.
+pub fn broken_parts_move()
+    ensures { BrokenPartsMove }
+{}
+
+/// So do they where a near part breaks a condition by its orders and equalities, whatever stands between the streams.
+pub fn near_breaks_move()
+    ensures { NearBreaksMove }
+{}
+
+/// With DISTINCT a query whose values do not move has an evaluator that is right on rows within the domains and has few states, whatever stands between its
+/// streams.
+pub fn still_queries_have_few_states()
+    ensures { StillQueriesHaveFewStates }
+{}
+
+/// So with DISTINCT a query that some assignment satisfies within its domains needs many states on rows within them exactly where its values move.
+pub fn motion_decides()
+    ensures { MotionDecides }
 {}

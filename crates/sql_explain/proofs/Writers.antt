@@ -4,9 +4,9 @@ use Rattle.std.proofs.lemmas.List.{take_all, take_more}
 use Rattle.std.proofs.lemmas.List.Concat.{flat_map-append}
 use Rattle.std.specs.Result.{IsErr}
 use Rattle.io_streams.specs.Sink.{SinkState, Wrote, BrokeOff, Writes}
-use Rattle.io_streams.proofs.Writing.{Wrote-trans, BrokeOff-then, BrokeOff-at}
+use Rattle.io_streams.proofs.Writing.{Wrote-trans, BrokeOff-then, BrokeOff-stop, BrokeOff-at}
 
--- a `?` gives the fault back
+-- a `?` gives the fault back with which a text broke off
 pub broke : {T E : Type 0} (r : Result T E) (a b : SinkState) (t : List ℕ) → IsErr r → BrokeOff a b t → Writes r a b t
 broke (Ok x) a b t i p = absurd (cc)
 broke (Err e) a b t i p = p
@@ -41,3 +41,7 @@ read_wrote {X = X} f xs i x a b c is lt p q = let P : X → Type 0 = λ y. Wrote
 pub writes_after : {T E : Type 0} (r : Result T E) (a b c : SinkState) (s t : List ℕ) → Wrote a b s → Writes r b c t → Writes r a c (s ++ t)
 writes_after (Ok x) a b c s t p q = Wrote-trans a b c s t p q
 writes_after (Err e) a b c s t p q = BrokeOff-then a b c s t p q
+
+-- a text broke off, so a longer one did
+pub stopped : (a b : SinkState) (s t : List ℕ) → BrokeOff a b s → BrokeOff a b (s ++ t)
+stopped a b s t p = BrokeOff-stop a b s t p

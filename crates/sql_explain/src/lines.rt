@@ -1,7 +1,6 @@
 //! The lines of the text of a plan. Each is one call that writes a list of pieces.
 ghost use Rattle.std.specs.Prelude.{◌≡◌, ◌++◌, ◌∷◌, [], codes, decimal};
 ghost use Rattle.io_streams.specs.Sink.{Writes};
-ghost use Rattle.sql_printer.specs.PrintedParts.{op_text};
 ghost use Rattle.sql_explain.specs.Text.{sign_text, soft_word, part_line, name_line};
 ghost use Rattle.sql_parser.specs.Naming.{column_text};
 
@@ -28,20 +27,6 @@ pub fn soft_word(op: Op) -> &'static [u8]
     match op {
         Op::Ne => b"unlike ",
         Op::Lt | Op::Eq | Op::Gt | Op::Le | Op::Ge => b"most ",
-    }
-}
-
-/// Returns an operator between two spaces.
-pub fn op_text(op: Op) -> &'static [u8]
-    ensures { result.now ≡ op_text op }
-{
-    match op {
-        Op::Lt => b" < ",
-        Op::Eq => b" = ",
-        Op::Gt => b" > ",
-        Op::Le => b" <= ",
-        Op::Ge => b" >= ",
-        Op::Ne => b" <> ",
     }
 }
 

@@ -5,11 +5,11 @@ ghost use Rattle.io_streams.specs.Sink.{Writes};
 ghost use Rattle.sql_explain.specs.Named.{HasLink, HasSoftLink};
 ghost use Rattle.sql_explain.specs.Text.{link_line, soft_line, unequal_text, links_text};
 
-use crate::lines::{op_text, sign_text, soft_word, write_columns_compared};
+use crate::lines::{sign_text, soft_word, write_columns_compared};
 use io_streams::{Sink, WriteFault};
 use sem_query::{Link, PartPlan, Sign, SoftLink};
 use sql_catalog::Catalog;
-use sql_printer::column_named;
+use sql_printer::{column_named, op_text};
 
 // `equal S.a = T.c`
 fn write_link<O: Sink>(

@@ -13,4 +13,4 @@ mod shortening;
 
 pub use names::column_named;
 pub use naming::{print_query, put_create_line};
-pub use printing::print;
+pub use printing::{op_text, print};

@@ -100,8 +100,8 @@ fn put_operand<O: Sink>(out: &mut O, lead: &[u8], operand: &OperandAst) -> Resul
     }
 }
 
-// A comparison between two spaces.
-fn op_text(op: Op) -> &'static [u8]
+/// Returns an operator between two spaces.
+pub fn op_text(op: Op) -> &'static [u8]
     ensures { result.now ≡ parts.op_text op }
 {
     match op {

@@ -8,7 +8,7 @@ mod reply;
 
 pub use refusal::{Refusal, parse_refusal, resolve_refusal, row_refusal, stream_refusal};
 pub use reply::{
-    condition_text, word_text, write_broken, write_created, write_dropped, write_filter,
-    write_limit, write_locked, write_no_pages, write_numbers, write_refused, write_unlocked,
-    write_violation,
+    condition_text, which_text, word_text, write_broken, write_created, write_dropped,
+    write_filter, write_limit, write_locked, write_no_pages, write_numbers, write_refused,
+    write_unlocked, write_violation,
 };

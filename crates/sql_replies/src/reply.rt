@@ -49,35 +49,8 @@ pub fn write_no_pages<O: Sink>(out: &mut O, name: &Name) -> Result<(), WriteFaul
     write_pieces(out, &pieces)
 }
 
-// `ok query q parts P cells C answers A work W`, by its parts.
-fn write_numbers_text<'a, O: Sink>(
-    out: &mut O,
-    name: &'a [u8],
-    parts: &'a [u8],
-    cells: &'a [u8],
-    answers: &'a [u8],
-    work: &'a [u8],
-) -> Result<(), WriteFault>
-    ensures { Writes result (O.seen out.old) (O.seen out.new)
-        (codes "ok query " ++ name.now ++ codes " parts " ++ parts.now ++ codes " cells " ++ cells.now ++ codes " answers " ++ answers.now ++ codes " work " ++ work.now ++ 10 ∷ []) }
-{
-    let pieces: [&[u8]; 11] = [
-        b"ok query ",
-        name,
-        b" parts ",
-        parts,
-        b" cells ",
-        cells,
-        b" answers ",
-        answers,
-        b" work ",
-        work,
-        b"\n",
-    ];
-    write_pieces(out, &pieces)
-}
-
 /// Writes `ok query q parts P cells C answers A work W`
+#[tactic(auto, using(crate::proofs::Grouped::numbers))]
 pub fn write_numbers<O: Sink>(out: &mut O, name: &Name, numbers: Numbers) -> Result<(), WriteFault>
     ensures { Writes result (O.seen out.old) (O.seen out.new) (numbers_text name.now numbers) }
 {
@@ -85,14 +58,20 @@ pub fn write_numbers<O: Sink>(out: &mut O, name: &Name, numbers: Numbers) -> Res
     let mut cells = Buffer::new();
     let mut answers = Buffer::new();
     let mut work = Buffer::new();
-    write_numbers_text(
-        out,
+    let pieces: [&[u8]; 11] = [
+        b"ok query ",
         name.bytes(),
+        b" parts ",
         parts.format(numbers.parts).as_bytes(),
+        b" cells ",
         cells.format(numbers.cells).as_bytes(),
+        b" answers ",
         answers.format(numbers.answers).as_bytes(),
+        b" work ",
         work.format(numbers.work).as_bytes(),
-    )
+        b"\n",
+    ];
+    write_pieces(out, &pieces)
 }
 
 /// Writes `ok query q filter`
@@ -103,7 +82,8 @@ pub fn write_filter<O: Sink>(out: &mut O, name: &Name) -> Result<(), WriteFault>
     write_pieces(out, &pieces)
 }
 
-fn which_text(which: Which) -> &'static [u8]
+/// Returns the name of a number that has a limit.
+pub fn which_text(which: Which) -> &'static [u8]
     ensures { result.now ≡ which_text which }
 {
     match which {

@@ -6,7 +6,7 @@ use crate::fault::Fault;
 use crate::writing::put;
 use io_streams::{Sink, write_all};
 use plan_conditions::decide;
-use plan_layout::{LayoutError, layout};
+use plan_layout::{LayoutError, lay_out};
 use plan_parts::{SplitError, split};
 use sem_query::{Decision, Numbers, Part, Plan, Query, Which};
 use std::alloc::Global;
@@ -45,7 +45,7 @@ fn show_layout<O: Sink>(
     requires parts { AreParts query.now (sign_lists parts.now) }
     requires few { length parts.now ≤ 4096 }
 {
-    match layout(alloc, query, parts) {
+    match lay_out(alloc, query, parts, false) {
         Ok(Plan::Filter) => write_all(out, b"filter")?,
         Ok(
             Plan::Parts {

@@ -1,11 +1,16 @@
-use Rattle.sql_explain.proofs.Writers.{broke}
-use Rattle.sql_printer.proofs.WritesBehind.{writes_then, writes_stop}
-use Rattle.adv_lines.specs.Items.{first_range, next_range}
-use Rattle.adv_lines.proofs.Texts.{headed_item}
+use Rattle.std.proofs.Common.{codes, refl}
+use Rattle.adv_lines.specs.Items.{range_item}
+use Rattle.adv_lines.proofs.Texts.{headed_wrote, headed_broke, lead_more}
 use Rattle.adv_lines.proofs.items.write_ranges.Goals as goal
 
-pub returns-in_err-write_range-in-len1-up : goal.returns-in_err-write_range-in-len1-up
-returns-in_err-write_range-in-len1-up g c = broke _ _ _ _ c.from_residual.ensures.0 (writes_stop _ _ _ _ _ (headed_item (first_range c.args.names.now.catalog.now c.args.names.now.from.now) (next_range c.args.names.now.catalog.now c.args.names.now.from.now) c.args.dims.now _ c.in-len1-up.len_at_least) c.in_err-write_range-in-len1-up.ensures)
+pub returns-in_err-write_range : goal.returns-in_err-write_range
+returns-in_err-write_range g c =
+    headed_broke (range_item c.args.names.now.catalog.now c.args.names.now.from.now) (codes " by ") (codes ", ") c.from_residual.result _ c.args.dims.now c.loop-dim.dim-index _ _ _ _ c.from_residual.ensures.0 c.loop-dim-test.true
+    c.loop-dim.invariant.lead c.loop-dim.invariant.wrote c.in_err-write_range.ensures
 
-pub returns-in_ok-write_range-in-len1-up : goal.returns-in_ok-write_range-in-len1-up
-returns-in_ok-write_range-in-len1-up g c = writes_then c.write_more_ranges.result _ _ _ _ _ _ (headed_item (first_range c.args.names.now.catalog.now c.args.names.now.from.now) (next_range c.args.names.now.catalog.now c.args.names.now.from.now) c.args.dims.now _ c.in-len1-up.len_at_least) c.in_ok-write_range-in-len1-up.ensures c.write_more_ranges.ensures
+pub loop-dim-preserved : goal.loop-dim-preserved
+loop-dim-preserved g c = record {
+  wrote = headed_wrote (range_item c.args.names.now.catalog.now c.args.names.now.from.now) (codes " by ") (codes ", ") _ c.args.dims.now c.loop-dim.dim-index _ _ _ _ c.loop-dim-test.true c.loop-dim.invariant.lead c.loop-dim.invariant.wrote
+      c.in_ok-write_range.ensures;
+  lead = lead_more (range_item c.args.names.now.catalog.now c.args.names.now.from.now) (codes " by ") (codes ", ") _ c.args.dims.now c.loop-dim.dim-index c.loop-dim-test.true refl;
+}

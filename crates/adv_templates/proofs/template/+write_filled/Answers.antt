@@ -1,4 +1,3 @@
-use Rattle.std.proofs.Common.{arith}
 use Rattle.io_streams.proofs.Writing.{BrokeOff-stop, BrokeOff-then}
 use Rattle.adv_templates.specs.declared.template.Filling.TheVariants.{Number}
 use Rattle.adv_templates.proofs.Sequences.{writes_after, broke_off, writes_as}

@@ -6,16 +6,16 @@ use Rattle.exec_part_index.proofs.left.pass_left.Goals as goal
 pub chain-preserved : goal.chain-preserved
 chain-preserved g c =
     let o = c.args.led.now.coded in
-    let next = c.after-i.ensures.next.behind in
+    let next = c.next_by-i.ensures.next.behind in
     let before = c.chain.invariant.reads in
     let read = c.cell_told-own-in-Some.ensures.reads in
     record {
       passed =
-          passed-step o.q.now o.parts.now o.pos c.args.led.now.part_index.now c.requires.part_index o.row.now.items c.args.pool.now c.args.led.now.extent.now c.args.start c.chain.i c.after-i.result c.chain.own
-          c.chain.invariant.stands.within c.chain.invariant.passed c.chain.invariant.own (c.stays.ensures.0 c.chain-test.true) c.after-i.ensures.next;
+          passed-step o.q.now o.parts.now o.pos c.args.led.now.part_index.now c.requires.part_index o.row.now.items c.args.pool.now c.args.led.now.extent.now c.args.start c.chain.i c.next_by-i.result c.chain.own
+          c.chain.invariant.stands.within c.chain.invariant.passed c.chain.invariant.own (c.stays.ensures.0 c.chain-test.true) c.next_by-i.ensures.next;
       stands =
-          subst (StandsAt o.q.now o.parts.now o.pos o.row.now.items c.after-i.result) (sym c.cell_told-own-in-Some.ensures.told)
-          (subst (λ n. StandsAt o.q.now o.parts.now o.pos o.row.now.items n c.in-Some.next) (sym c.after-i.ensures.number) c.in-Some.ensures);
+          subst (StandsAt o.q.now o.parts.now o.pos o.row.now.items c.next_by-i.result) (sym c.cell_told-own-in-Some.ensures.told)
+          (subst (λ n. StandsAt o.q.now o.parts.now o.pos o.row.now.items n c.in-Some.next) (sym c.next_by-i.ensures.number) c.in-Some.ensures);
       own = c.cell_told-own-in-Some.ensures.own;
       reads = omega (arith, next, before, read);
       writes = c.cell_told-own-in-Some.ensures.writes ∙ c.chain.invariant.writes;
@@ -24,5 +24,5 @@ chain-preserved g c =
 pub returns-in-None-clause-passed : goal.returns-in-None-clause-passed
 returns-in-None-clause-passed g c =
     let o = c.args.led.now.coded in
-    passed-step o.q.now o.parts.now o.pos c.args.led.now.part_index.now c.requires.part_index o.row.now.items c.args.pool.now c.args.led.now.extent.now c.args.start c.chain.i c.after-i.result c.chain.own
-    c.chain.invariant.stands.within c.chain.invariant.passed c.chain.invariant.own (c.stays.ensures.0 c.chain-test.true) c.after-i.ensures.next
+    passed-step o.q.now o.parts.now o.pos c.args.led.now.part_index.now c.requires.part_index o.row.now.items c.args.pool.now c.args.led.now.extent.now c.args.start c.chain.i c.next_by-i.result c.chain.own
+    c.chain.invariant.stands.within c.chain.invariant.passed c.chain.invariant.own (c.stays.ensures.0 c.chain-test.true) c.next_by-i.ensures.next

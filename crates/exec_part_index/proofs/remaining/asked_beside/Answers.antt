@@ -1,4 +1,6 @@
-use Rattle.std.proofs.Common.{◌∙◌, arith}
+use Rattle.std.proofs.Common.{◌∙◌, List, sym, subst, arith}
+use Rattle.sem_query.specs.declared.part.Pair.{Pair}
+use Rattle.exec_part_index.specs.Showing.{AreAskings}
 use Rattle.sem_query.specs.Parts.{pairs}
 use Rattle.sem_query.specs.Admission.{alone}
 use Rattle.exec_synopsis.specs.Preparing.{keeps_tests}
@@ -26,3 +28,7 @@ pub returns : goal.returns
 returns c =
     asked_done c.args.place c.args.signed.now.pairs.now c.args.signed.now.signs.now (λ v. keeps_tests c.args.place (alone v) (pairs c.args.q.now) c.args.part.now.signs.items c.args.prepared.now.tests.items)
     c.args.prepared.now.asked.items c.asked-condition-items.result.now c.asked.list.items c.asked.condition-index c.asked-condition-items.ensures (omega (arith, c.asked-test.false)) c.asked.invariant
+
+pub ask_number-requires-clause-askings : goal.ask_number-requires-clause-askings
+ask_number-requires-clause-askings c =
+    subst (λ (ps : List Pair). AreAskings ps c.args.place c.args.signed.now.pairs.now c.args.signed.now.askings.now) (sym (c.as_slice-pairs.ensures.value ∙ c.pairs.ensures)) c.requires.askings

@@ -22,16 +22,16 @@ meet_cells-requires-clause-ready g c = subst (λ p. IsPlanReady c.args.query.now
 
 pub returns-in-Parts-clause-answers : goal.returns-in-Parts-clause-answers
 returns-in-Parts-clause-answers g c =
-    direct-answers c.args.query.now.q.now c.args.query.now.plan.now c.in-Parts.parts c.in-Parts.numbers c.args.direct.now c.requires.direct c.args.arrived.now.stream c.requires.stream c.in-Parts.is (read_from (cells_of c.args.pool.now c.args.query.now.extent.now)) c.args.arrived.now.row.now.items
+    direct-answers c.args.query.now.q.now c.args.query.now.plan.now c.in-Parts.parts c.in-Parts.numbers c.args.direct.now c.requires.direct c.args.stream c.requires.stream c.in-Parts.is (read_from (cells_of c.args.pool.now c.args.query.now.extent.now)) c.args.row.now.items
     ∙ c.meet_cells.ensures.answers
 
 pub returns-in-Parts-clause-pool : goal.returns-in-Parts-clause-pool
 returns-in-Parts-clause-pool g c =
-    let r = arrival c.args.arrived.now.stream c.args.arrived.now.row.now.items in
+    let r = arrival c.args.stream c.args.row.now.items in
     subst (λ p. HasTaken c.args.query.now.q.now (parts_of p) c.args.query.now.extent.now r (length (parts_of p)) c.args.pool.now c.meet_cells.new.pool) (sym c.in-Parts.is)
     (subst (λ x. HasTaken c.args.query.now.q.now c.in-Parts.parts c.args.query.now.extent.now x (length c.in-Parts.parts) c.args.pool.now c.meet_cells.new.pool)
-    (sym (direct-arrives c.args.query.now.q.now (parts_of c.args.query.now.plan.now) c.args.direct.now c.requires.direct c.args.arrived.now.stream c.requires.stream c.args.arrived.now.row.now.items)) c.meet_cells.ensures.pool)
+    (sym (direct-arrives c.args.query.now.q.now (parts_of c.args.query.now.plan.now) c.args.direct.now c.requires.direct c.args.stream c.requires.stream c.args.row.now.items)) c.meet_cells.ensures.pool)
 
 pub returns-in-Parts-clause-outside : goal.returns-in-Parts-clause-outside
 returns-in-Parts-clause-outside g c = λ none.
-    absurd (let named = direct-named c.args.query.now.q.now (parts_of c.args.query.now.plan.now) c.args.direct.now c.requires.direct c.args.arrived.now.stream c.requires.stream in let no : true ≡ false = sym named ∙ none in cc)
+    absurd (let named = direct-named c.args.query.now.q.now (parts_of c.args.query.now.plan.now) c.args.direct.now c.requires.direct c.args.stream c.requires.stream in let no : true ≡ false = sym named ∙ none in cc)

@@ -14,15 +14,15 @@ name_at-name-requires g c =
     let size = size_run c.live.inside.rows c.live.inside.names.keys c.live.inside.runners.items c.args.live.now c.live.invariant.0 c.live.view_is in
     omega (arith, c.requires.there, size, c.live.invariant.0)
 
-pub put_behind-requires-clause-counted : goal.put_behind-requires-clause-counted
-put_behind-requires-clause-counted g c =
+pub put_next-requires-clause-counted : goal.put_next-requires-clause-counted
+put_next-requires-clause-counted g c =
     let size = size_run c.live.inside.rows c.live.inside.names.keys c.live.inside.runners.items c.args.live.now c.live.invariant.0 c.live.view_is in
     counted_at c.live.inside.rows c.live.inside.runners.items c.args.place c.index_mut-runner.result.now (omega (arith, c.requires.there, size)) c.index_mut-runner.ensures.value c.live.invariant.1
 
 pub invariant_of-live : goal.invariant_of-live
 invariant_of-live g c = (
-  c.live.invariant.0 ∙ sym (length-set c.live.inside.runners.items c.args.place c.put_behind.new.runner),
-  all_set (IsCounted c.live.inside.rows) c.live.inside.runners.items c.args.place c.put_behind.new.runner c.live.invariant.1 c.put_behind.ensures.counted,
+  c.live.invariant.0 ∙ sym (length-set c.live.inside.runners.items c.args.place c.put_next.new.runner),
+  all_set (IsCounted c.live.inside.rows) c.live.inside.runners.items c.args.place c.put_next.new.runner c.live.invariant.1 c.put_next.ensures.counted,
 )
 
 pub returns-clause-gathered : goal.returns-clause-gathered
@@ -31,19 +31,19 @@ returns-clause-gathered g c = λ l.
     let same = sized c.live.inside.rows c.live.inside.names.keys c.live.inside.runners.items c.live.invariant.0 in
     let stands = run_stands c.live.inside.rows c.live.inside.runners.items c.args.place c.index_mut-runner.result.now (omega (arith, c.requires.there, size)) c.index_mut-runner.ensures.value in
     let at = live_named c.live.inside.names.keys (shown c.live.inside.rows c.live.inside.runners.items) c.args.live.now c.args.place c.name_at-name.result.now (run_to c.live.inside.rows c.index_mut-runner.result.now) l same c.live.view_is c.name_at-name.ensures stands in
-    subst (λ (x : Live). GathersNext c.args.gathered c.put_behind.result (g.O.Sink.seen c.args.out.now) (g.O.Sink.seen c.put_behind.new.out) c.args.lines.now c.put_behind.new.lines (waiting_text x)) (sym at) c.put_behind.ensures.gathered
+    subst (λ (x : Live). GathersNext c.args.gathered c.put_next.result (g.O.Sink.seen c.args.out.now) (g.O.Sink.seen c.put_next.new.out) c.args.lines.now c.put_next.new.lines (waiting_text x)) (sym at) c.put_next.ensures.gathered
 
 pub returns-clause-wrote : goal.returns-clause-wrote
 returns-clause-wrote g c =
     let size = size_run c.live.inside.rows c.live.inside.names.keys c.live.inside.runners.items c.args.live.now c.live.invariant.0 c.live.view_is in
     let same = sized c.live.inside.rows c.live.inside.names.keys c.live.inside.runners.items c.live.invariant.0 in
     let stands = run_stands c.live.inside.rows c.live.inside.runners.items c.args.place c.index_mut-runner.result.now (omega (arith, c.requires.there, size)) c.index_mut-runner.ensures.value in
-    let later : ExecutorValue = run_to c.live.inside.rows c.put_behind.new.runner in
+    let later : ExecutorValue = run_to c.live.inside.rows c.put_next.new.runner in
     let l' : Live = named c.name_at-name.result.now later in
     record {
       live = l';
       wrote = λ l. subst (λ (x : Live). WroteOne x l')
-          (sym (live_named c.live.inside.names.keys (shown c.live.inside.rows c.live.inside.runners.items) c.args.live.now c.args.place c.name_at-name.result.now (run_to c.live.inside.rows c.index_mut-runner.result.now) l same c.live.view_is c.name_at-name.ensures stands)) c.put_behind.ensures.wrote;
-      set = ap (λ (es : List ExecutorValue). live_of c.live.inside.names.keys es) (shown_set c.live.inside.rows c.live.inside.runners.items c.args.place c.put_behind.new.runner)
+          (sym (live_named c.live.inside.names.keys (shown c.live.inside.rows c.live.inside.runners.items) c.args.live.now c.args.place c.name_at-name.result.now (run_to c.live.inside.rows c.index_mut-runner.result.now) l same c.live.view_is c.name_at-name.ensures stands)) c.put_next.ensures.wrote;
+      set = ap (λ (es : List ExecutorValue). live_of c.live.inside.names.keys es) (shown_set c.live.inside.rows c.live.inside.runners.items c.args.place c.put_next.new.runner)
           ∙ set_named c.live.inside.names.keys (shown c.live.inside.rows c.live.inside.runners.items) c.args.live.now c.args.place c.name_at-name.result.now later same c.live.view_is c.name_at-name.ensures;
     }

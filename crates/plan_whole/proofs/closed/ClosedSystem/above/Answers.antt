@@ -21,20 +21,20 @@ pub returns-then-are_below-clause-bound : goal.returns-then-are_below-clause-bou
 returns-then-are_below-clause-bound c =
     let k : IsClosedSystem c.args.self.now c.self.inside.bounds = subst (λ q. IsClosedSystem q c.self.inside.bounds) c.self.view_is c.self.invariant.1 in
     let e : c.attrs-attrs.result.now ≡ attrs_of c.args.self.now.atoms = c.attrs-attrs.ensures.value ∙ sym (signed_attrs c.self.inside.query.now c.self.inside.pairs.now c.self.inside.signs.now c.self.invariant.0) ∙ ap (λ q. attrs_of q.atoms) c.self.view_is in
-    let l : (c.place_of-left.result < length c.attrs-attrs.result.now) × (c.place_of-right.result < length c.attrs-attrs.result.now) = c.are_below.ensures.0 c.if-are_below.true in
-    (upper_read c.args.self.now c.self.inside.bounds k c.attrs-attrs.result.now c.place_of-left.result c.place_of-right.result _ _ c.args.a c.args.b c.bound_at.result e c.place_of-left.ensures.value c.place_of-right.ensures.value l.0 l.1 (sym c.is_same.ensures ∙ c.if-is_same.false) (omega arith) (omega arith) c.bound_at.ensures).0
+    let l : (c.place_in-left.result < length c.attrs-attrs.result.now) × (c.place_in-right.result < length c.attrs-attrs.result.now) = c.are_below.ensures.0 c.if-are_below.true in
+    (upper_read c.args.self.now c.self.inside.bounds k c.attrs-attrs.result.now c.place_in-left.result c.place_in-right.result _ _ c.args.a c.args.b c.bound_at.result e c.place_in-left.ensures c.place_in-right.ensures l.0 l.1 (sym c.is_same.ensures ∙ c.if-is_same.false) (omega arith) (omega arith) c.bound_at.ensures).0
 
 pub returns-then-are_below-clause-modest : goal.returns-then-are_below-clause-modest
 returns-then-are_below-clause-modest c =
     let k : IsClosedSystem c.args.self.now c.self.inside.bounds = subst (λ q. IsClosedSystem q c.self.inside.bounds) c.self.view_is c.self.invariant.1 in
     let e : c.attrs-attrs.result.now ≡ attrs_of c.args.self.now.atoms = c.attrs-attrs.ensures.value ∙ sym (signed_attrs c.self.inside.query.now c.self.inside.pairs.now c.self.inside.signs.now c.self.invariant.0) ∙ ap (λ q. attrs_of q.atoms) c.self.view_is in
-    let l : (c.place_of-left.result < length c.attrs-attrs.result.now) × (c.place_of-right.result < length c.attrs-attrs.result.now) = c.are_below.ensures.0 c.if-are_below.true in
-    (upper_read c.args.self.now c.self.inside.bounds k c.attrs-attrs.result.now c.place_of-left.result c.place_of-right.result _ _ c.args.a c.args.b c.bound_at.result e c.place_of-left.ensures.value c.place_of-right.ensures.value l.0 l.1 (sym c.is_same.ensures ∙ c.if-is_same.false) (omega arith) (omega arith) c.bound_at.ensures).1
+    let l : (c.place_in-left.result < length c.attrs-attrs.result.now) × (c.place_in-right.result < length c.attrs-attrs.result.now) = c.are_below.ensures.0 c.if-are_below.true in
+    (upper_read c.args.self.now c.self.inside.bounds k c.attrs-attrs.result.now c.place_in-left.result c.place_in-right.result _ _ c.args.a c.args.b c.bound_at.result e c.place_in-left.ensures c.place_in-right.ensures l.0 l.1 (sym c.is_same.ensures ∙ c.if-is_same.false) (omega arith) (omega arith) c.bound_at.ensures).1
 
 pub returns-else-are_below-clause-bound : goal.returns-else-are_below-clause-bound
 returns-else-are_below-clause-bound c =
     let k : IsClosedSystem c.args.self.now c.self.inside.bounds = subst (λ q. IsClosedSystem q c.self.inside.bounds) c.self.view_is c.self.invariant.1 in
     let e : c.attrs-attrs.result.now ≡ attrs_of c.args.self.now.atoms = c.attrs-attrs.ensures.value ∙ sym (signed_attrs c.self.inside.query.now c.self.inside.pairs.now c.self.inside.signs.now c.self.invariant.0) ∙ ap (λ q. attrs_of q.atoms) c.self.view_is in
-    apart_read c.args.self.now c.self.inside.bounds k c.attrs-attrs.result.now c.place_of-left.result c.place_of-right.result c.args.a c.args.b c.ends.result c.ends-else-are_below.result c.apart.result e
-    c.place_of-left.ensures.value c.place_of-right.ensures.value (sym c.is_same.ensures ∙ c.if-is_same.false)
+    apart_read c.args.self.now c.self.inside.bounds k c.attrs-attrs.result.now c.place_in-left.result c.place_in-right.result c.args.a c.args.b c.ends.result c.ends-else-are_below.result c.apart.result e
+    c.place_in-left.ensures c.place_in-right.ensures (sym c.is_same.ensures ∙ c.if-is_same.false)
     (λ l. not_both c.are_below.result (c.are_below.ensures.1 l) c.if-are_below.false) c.ends.ensures.ends c.ends-else-are_below.ensures.ends c.apart.ensures.value

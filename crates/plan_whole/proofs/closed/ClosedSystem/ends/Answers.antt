@@ -26,14 +26,14 @@ pub returns-then-place-attrs-clause-ends : goal.returns-then-place-attrs-clause-
 returns-then-place-attrs-clause-ends c =
     let k : IsClosedSystem c.args.self.now c.self.inside.bounds = subst (λ q. IsClosedSystem q c.self.inside.bounds) c.self.view_is c.self.invariant.1 in
     let e : c.attrs-attrs.result.now ≡ attrs_of c.args.self.now.atoms = c.attrs-attrs.ensures.value ∙ sym (signed_attrs c.self.inside.query.now c.self.inside.pairs.now c.self.inside.signs.now c.self.invariant.0) ∙ ap (λ q. attrs_of q.atoms) c.self.view_is in
-    ends_read c.args.self.now c.self.inside.bounds k c.attrs-attrs.result.now c.place_of-place.result _ c.args.a c.ends_at.result e c.place_of-place.ensures.value c.if-place-attrs.true (omega arith) c.ends_at.ensures.least c.ends_at.ensures.greatest
+    ends_read c.args.self.now c.self.inside.bounds k c.attrs-attrs.result.now c.place_in-place.result _ c.args.a c.ends_at.result e c.place_in-place.ensures c.if-place-attrs.true (omega arith) c.ends_at.ensures.least c.ends_at.ensures.greatest
 
 pub returns-else-place-attrs-clause-ends : goal.returns-else-place-attrs-clause-ends
 returns-else-place-attrs-clause-ends c =
     let k : IsClosedSystem c.args.self.now c.self.inside.bounds = subst (λ q. IsClosedSystem q c.self.inside.bounds) c.self.view_is c.self.invariant.1 in
     let e : c.attrs-attrs.result.now ≡ attrs_of c.args.self.now.atoms = c.attrs-attrs.ensures.value ∙ sym (signed_attrs c.self.inside.query.now c.self.inside.pairs.now c.self.inside.signs.now c.self.invariant.0) ∙ ap (λ q. attrs_of q.atoms) c.self.view_is in
     let f : c.domains.result.now ≡ c.args.self.now.domains = c.domains.ensures.value ∙ ap (λ q. q.domains) c.self.view_is in
-    domain_read c.args.self.now c.self.inside.bounds k c.attrs-attrs.result.now c.domains.result.now c.place_of-place.result c.args.a c.domain_ends.result e f c.place_of-place.ensures.value c.if-place-attrs.false c.domain_ends.ensures
+    domain_read c.args.self.now c.self.inside.bounds k c.attrs-attrs.result.now c.domains.result.now c.place_in-place.result c.args.a c.domain_ends.result e f c.place_in-place.ensures c.if-place-attrs.false c.domain_ends.ensures
 
 pub returns-else-place-attrs-clause-low : goal.returns-else-place-attrs-clause-low
 returns-else-place-attrs-clause-low c =

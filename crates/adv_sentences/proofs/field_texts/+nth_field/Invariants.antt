@@ -1,4 +1,0 @@
-use Rattle.adv_sentences.proofs.field_texts.+nth_field.Given as goal
-
-abbrev pub decreases-nth_field : goal.decreases-nth_field
-decreases-nth_field l = l.place

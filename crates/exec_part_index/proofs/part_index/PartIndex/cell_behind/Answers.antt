@@ -1,0 +1,23 @@
+use Rattle.std.proofs.Common.{get_or, sym, subst}
+use Rattle.std.specs.Option.{IfSome}
+use Rattle.exec_part_index.specs.Shifts.{IsNextShifted, StandsAt}
+use Rattle.exec_part_index.proofs.PreparedParts.{part_at}
+use Rattle.exec_part_index.proofs.Shifting.{cell_fits, cell_next}
+use Rattle.exec_part_index.proofs.part_index.PartIndex.cell_behind.Goals as goal
+
+pub after-requires : goal.after-requires
+after-requires c =
+    let o = c.args.coded.now in
+    let there = part_at o.parts.now c.args.i c.requires.stands.within in
+    let shifted = subst (λ s. IfSome s (λ t. IsNextShifted o.parts.now o.pos c.args.self.now.codes.items c.args.self.now.links.items c.args.self.now.spans.items c.args.i t)) c.in-Some.is c.requires.entry.shift in
+    cell_fits o.q.now o.parts.now o.pos c.args.self.now c.requires.part_index o.row.now.items c.args.i c.in-Some.shift there.0 there.1 shifted c.args.cell.number c.args.cell.kind
+    (c.requires.stands.stands there.0 there.1)
+
+pub returns-in-Some : goal.returns-in-Some
+returns-in-Some c =
+    let o = c.args.coded.now in
+    let there = part_at o.parts.now c.args.i c.requires.stands.within in
+    let shifted = subst (λ s. IfSome s (λ t. IsNextShifted o.parts.now o.pos c.args.self.now.codes.items c.args.self.now.links.items c.args.self.now.spans.items c.args.i t)) c.in-Some.is c.requires.entry.shift in
+    subst (StandsAt o.q.now o.parts.now o.pos o.row.now.items (get_or c.args.self.now.links.items c.args.i 0)) (sym c.after.ensures)
+    (cell_next o.q.now o.parts.now o.pos c.args.self.now c.requires.part_index o.row.now.items c.args.i c.in-Some.shift there.0 there.1 shifted c.args.cell.number c.args.cell.kind
+    (c.requires.stands.stands there.0 there.1))
