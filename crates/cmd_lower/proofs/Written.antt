@@ -16,7 +16,7 @@ use Rattle.fam_text.specs.Text.{rows_text}
 use Rattle.cmd_lower.specs.declared.finding.LowerFinding.{LowerFinding}
 use Rattle.cmd_lower.specs.declared.finding.LowerFinding.TheVariants.{Rows}
 use Rattle.cmd_lower.specs.declared.form.LowerForm.{LowerForm}
-use Rattle.cmd_lower.specs.Finding.{AreMadeFor, IsShown, by_plain, moved, by_form, IsFinding}
+use Rattle.cmd_lower.specs.Finding.{AreMadeFor, IsShown, by_plain, by_form, IsFinding}
 use Rattle.cmd_lower.specs.Text.{head_text, end_text, finding_text}
 use Rattle.sql_replies.proofs.Named.{violation_is_named}
 use Rattle.sql_printer.proofs.WritesBehind.{writes_behind}
@@ -30,13 +30,11 @@ module _ (streams : List Shape) (q : QueryValue) (n part : ℕ) (condition : Con
   -- it is a family for the column that is named
   pub shown-family : IsShown streams q n part condition a f → IsFamily q condition a n f
   shown-family (by_plain judged is h) = h.family
-  shown-family (moved judged b is h) = h.family
   shown-family (by_form judged b is h) = h.family
 
   -- which the streams have
   pub shown-column : HasNamed streams q → IsShown streams q n part condition a f → IsColumnOf streams q.from a
   shown-column named (by_plain judged is h) = violation_is_named streams q _ named is
-  shown-column named (moved judged b is h) = h.column
   shown-column named (by_form judged b is h) = h.column
 
   -- its rows are rows of the streams
@@ -45,7 +43,6 @@ module _ (streams : List Shape) (q : QueryValue) (n part : ℕ) (condition : Con
     where
       by : IsShown streams q n part condition a f → AreTakenRows streams n f
       by (by_plain judged is h) = h.taken
-      by (moved judged b is h) = h.taken
       by (by_form judged b is h) = h.taken
 
 module _ (streams : List Shape) (q : QueryValue) (name title : List ℕ) (n part : ℕ) (condition : Condition) (a : Attr) (column : ColumnAst) (f : FamilyValue)

@@ -19,10 +19,39 @@ use crate::lower_command::Lowered;
 use fam_fooling_sets::Family;
 use fam_text::write_rows;
 use io_streams::{Sink, WriteFault};
+use itoa::Buffer;
 use sem_query::{Attr, Condition};
 use sql_catalog::Catalog;
+use sql_parser::ColumnAst;
 use sql_printer::column_named;
+use sql_replies::condition_text;
 use sql_script::{Script, name_of};
+
+// `family q part 1 C1 S.a size 2`
+fn write_first<O: Sink>(
+    out: &mut O,
+    name: &[u8],
+    part: u32,
+    condition: Condition,
+    column: &ColumnAst,
+    size: u16,
+) -> Result<(), WriteFault>
+    ensures { Writes result (O.seen out.old) (O.seen out.new) (head_text name.now (decimal part) (texts.condition_text condition) (column_text column.now) (decimal size)) }
+{
+    let mut number = Buffer::new();
+    let part = number.format(part).as_bytes();
+    let mut count = Buffer::new();
+    let size = count.format(size).as_bytes();
+    write_head(
+        out,
+        name,
+        part,
+        condition_text(condition),
+        column.stream.bytes(),
+        column.column.bytes(),
+        size,
+    )
+}
 
 // The rows of a family, and its last line.
 #[tactic(auto, using(sql_printer::proofs::WritesBehind::writes_behind))]
@@ -59,7 +88,7 @@ fn write_family<O: Sink>(
 {
     let name = name_of(&script.statement);
     let column = column_named(attr, script.query.from(), &script.catalog);
-    match write_head(out, name, part, condition, &column, n) {
+    match write_first(out, name, part, condition, &column, n) {
         Ok(()) => write_behind(out, name, &script.catalog, family),
         Err(fault) => Err(fault),
     }
