@@ -7,9 +7,10 @@ before, the rows that ask for a row show whether it is in the set, or for an ine
 DISTINCT the numbers of answers differ between any two sets. All sets are tried up to 2^6, 64 random
 ones above, and some families of 1,000 rows are tried at random places. Queries that have no family,
 and scripts that are refused, are tried too. `lower N` makes no family for a refusal by C3. A compact
-query is refused where its whole form does not fit and a part of its split form breaks a condition. It
-must have a family then, as long as each `<>` between its streams has a side with both ends in the
-text; its rows may be of another stream than the column at fault.
+query is refused where its whole form does not fit and a part of its split form breaks a condition. A
+refused query must have a family where its values move (`moving`); its rows may be of another stream than
+the column at fault. Where none move, with DISTINCT the one line says that few states are enough. Of a
+query without COMPACT that no part shows by itself both are asked for by `--c3` alone.
 """
 import re
 from collections import Counter, namedtuple
@@ -17,6 +18,7 @@ from copy import copy
 
 import analysis
 import checker
+import moving
 import refused
 import splitform
 import whole
@@ -69,21 +71,6 @@ def first_failure(query):
     return None
 
 
-def is_closed(query, column):
-    """Whether the text gives a column both ends."""
-    if any(it[0] == column for it in query.domains):
-        return True
-    ends = [op if left == column else analysis.TURNED[op] for left, op, right in query.atoms
-            if column in (left, right) and (analysis.is_constant(left) or analysis.is_constant(right))]
-    return "=" in ends or (any(it[0] == "<" and it != "<>" for it in ends) and any(it[0] == ">" for it in ends))
-
-
-def has_open_unlike(query):
-    """Whether a `<>` stands between columns of two streams of which neither has both ends in the text."""
-    return any(op == "<>" and not analysis.is_constant(left) and not analysis.is_constant(right) and left[0] != right[0]
-               and not (is_closed(query, left) or is_closed(query, right)) for left, op, right in query.atoms)
-
-
 def query_of(text):
     """The query of a script with its line and what refuses the script, each where there is one."""
     try:
@@ -91,6 +78,12 @@ def query_of(text):
         return script.query, script.query_line, None
     except Refused as refusal:
         return *checker.query_before(text, refusal.line), refusal
+
+
+def has_plain_family(query, condition):
+    """Whether a part of a query that breaks a condition has a family by itself: no pair lies between streams, for C3 no column has a domain."""
+    across = any(not analysis.is_local(it, it[0][0]) for it in analysis.pairs_of(query))
+    return condition == "C1" or not (across or (condition == "C3" and query.domains))
 
 
 def without_family(text, every):
@@ -109,12 +102,14 @@ def without_family(text, every):
         return b"no family bounded\n", 0
     if failure[1] == "C3" and not every:
         return b"no family C3\n", 0
-    if goes_by_form(query):
+    if not goes_by_form(query) and has_plain_family(query, failure[1]):
         return None
-    across = any(not analysis.is_local(it, it[0][0]) for it in analysis.pairs_of(query))
-    if failure[1] == "C3" and (across or query.domains):
-        return b"no family C3\n", 0
-    return (b"no family C2\n", 0) if failure[1] == "C2" and across else None
+    if every or goes_by_form(query):
+        if moving.has_rows(query, failure[1]):
+            return None
+        if query.distinct and not moving.ways(query):
+            return b"no family few\n", 0
+    return b"no family %s\n" % (b"form" if goes_by_form(query) else failure[1].encode()), 0
 
 
 # what is written
@@ -226,15 +221,16 @@ def count_apart(part, script, own, family):
 
 
 def count_apart_at(part, script, own, family, place):
-    """Tries two sets of a large family that agree below a number, and two that agree above it."""
+    """Tries two sets of a large family that agree below a number, and two that agree above it, at the number, the one before and the last."""
     size, low = len(family.rows), (1 << place) - 1
+    numbers = sorted({max(place - 1, 0), place, size - 1})
     for kept in (low, ~low << 1):
         part.count("pairs of large sets")
         one, two = (part.random.randrange(1 << size) for _ in range(2))
         two = one & kept | two & ~kept
         lives = [after_set(script, own, family, it & ~(1 << place) | bit << place)
                  for it, bit in ((one, 0), (two & (1 << size) - 1, 1))]
-        if len({len(told(it, family.asking[place])) for it in lives}) == 2:
+        if len({tuple(len(told(it, family.asking[number])) for number in numbers) for it in lives}) == 2:
             return
     raise Fault(f"sets that differ at number {place + 1} are not told apart")
 
@@ -260,12 +256,17 @@ def try_family(part, script, failure, family):
             count_apart_at(part, script, own, family, place)
 
 
+def may_move(query, failure):
+    """Whether the rows may be those of the whole query, that move in equal steps, of any stream."""
+    return failure[1] != "C1" and (goes_by_form(query) or not has_plain_family(query, failure[1]))
+
+
 def shown_failure(script, failure, head, size):
-    """The failure with the column that the first line of a family names; it names another stream's only by the split form, and none for C1."""
+    """The failure with the column that the first line of a family names; it names another stream's where rows move, and never for C1."""
     query, streams, found = script.query, script.statement.streams, HEAD.match(head)
     name = script.session.column_name
     wanted = b"family q part %d %s %s size %d" % (failure[0], failure[1].encode(), name(streams, failure[2]), size)
-    others = analysis.attributes_of(query) if goes_by_form(query) and failure[1] != "C1" else []
+    others = analysis.attributes_of(query) if may_move(query, failure) else []
     column = next((it for it in others if found and it[0] != failure[2][0] and found[4] + b"." + found[5] == name(streams, it)), failure[2])
     if head.replace(name(streams, column), name(streams, failure[2])) != wanted:
         raise Fault(f"got {head!r}, wanted {wanted!r}")
@@ -286,9 +287,6 @@ def judge(part, program, text, size, every):
     failure = first_failure(script.query)
     part.count("runs")
     output, status, noise = run_program(program, list(words), text)
-    if output == b"no family form\n" and goes_by_form(script.query) and has_open_unlike(script.query):
-        part.count("no family form")
-        return
     part.count(f"families by {failure[1]}")
     part.count("families by C3 with DISTINCT", int(failure[1] == "C3" and script.query.distinct))
     part.count("with a domain", int(bool(script.query.domains)))
@@ -303,7 +301,7 @@ def judge(part, program, text, size, every):
         own = script.statement.streams[shown[2][0]]
         family = read_family(lines[:-1], size, own, script)
         column = shown[2][1]
-        if (shown[1] == "C1" or not goes_by_form(script.query)) and len({it[column] for it in family.rows}) < size:
+        if (shown[1] == "C1" or not may_move(script.query, failure)) and len({it[column] for it in family.rows}) < size:
             raise Fault("two rows have the same value in the named column")
         try_family(part, script, shown, family)
     except (Fault, ValueError) as fault:

@@ -36,8 +36,11 @@ class Prover:
     def __init__(self, top, kit):
         self.top, self.kit, self.crates = top, kit, crates_of(top)
 
+    def folder(self, crate):
+        return os.path.join(self.top, "crates", crate)
+
     def library(self, crate):
-        return os.path.join(self.top, "crates", crate, "out", "rlib", f"{crate}.rlib")
+        return os.path.join(self.folder(crate), "out", "rlib", f"{crate}.rlib")
 
     def lacking(self, crate):
         """Returns the libraries below a crate that are not built."""
@@ -62,18 +65,11 @@ class Prover:
         """Checks functions of a copy of a crate with these texts in place of its own; gives the status and what was written."""
         with tempfile.TemporaryDirectory() as room:
             for part in PARTS:
-                if os.path.isdir(os.path.join(self.top, "crates", crate, part)):
-                    shutil.copytree(os.path.join(self.top, "crates", crate, part), os.path.join(room, part))
+                if os.path.isdir(os.path.join(self.folder(crate), part)):
+                    shutil.copytree(os.path.join(self.folder(crate), part), os.path.join(room, part))
             for path, text in texts.items():
                 with open(os.path.join(room, path), "w", encoding="utf-8") as file:
                     file.write(text)
             how = {"stdin": subprocess.DEVNULL, "stdout": subprocess.PIPE, "stderr": subprocess.STDOUT, "encoding": "utf-8", "errors": "replace"}
             ran = subprocess.run(self.command(crate, functions, kept), cwd=room, check=False, **how)
             return ran.returncode, ran.stdout
-
-
-def linked(folder, to):
-    """Copies a folder of kept work; the files of checked modules by links, since a check replaces such a file and writes into none."""
-    def copy(file, other):
-        return os.link(file, other) if file.endswith(".oantt") else shutil.copy2(file, other)
-    shutil.copytree(folder, to, copy_function=copy)

@@ -10,3 +10,9 @@ class Fault(Exception):
 
 class Busy(Fault):
     """Another run has the folder or the output."""
+
+
+def require(holds, sentence):
+    """Ends the run by a sentence where something does not hold."""
+    if not holds:
+        raise Fault(sentence)

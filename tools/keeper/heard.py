@@ -1,9 +1,4 @@
-"""What is heard while a session runs: how much the consumer has made durable, and what the operator changes.
-
-Each CREATE or DROP line is written to a list before it is sent to bq, with the number of lines of the input before it.
-So a run that goes on from a checkpoint before it says it once more in the same place. Its reply stands in the list
-behind it.
-"""
+"""What is heard while a session runs: how much the consumer has made durable, and what the operator changes."""
 import fcntl
 import itertools
 import os
@@ -12,11 +7,13 @@ import select
 from contextlib import suppress
 from pathlib import Path
 
-from keeper import Fault, log
+from keeper import Fault, log, require
+from keeper.checkpoint import save
 from keeper.stream import PIECE, Lines
 
 STATEMENT = re.compile(rb"(?:CREATE|DROP)[ \t][^\n]{1,1000}\Z", re.IGNORECASE)
 LINE = re.compile(rb"^(\d+|=|!) ([^\n]*)\n", re.MULTILINE)
+REPLY = re.compile(rb"^[=!] ([^\n]*)\n", re.MULTILINE)
 # after so many looks for a reply it is told that there is none yet
 LOOKS = 250
 
@@ -59,37 +56,37 @@ class Acks:
 
 
 class Changes:
-    """The named pipe of the operator, and the list."""
+    """The named pipe of the operator, and the list in which each statement stands before bq has it, and then its reply.
 
-    def __init__(self, folder, pipe, is_anew):
+    With the number of lines before it a run that goes on from an older checkpoint says it again in the same place.
+    """
+
+    def __init__(self, folder, handle, pipe, is_anew):
         pipe = pipe or os.path.join(folder, "control")
         with suppress(FileExistsError):
             os.mkfifo(pipe, 0o600)
-        if not Path(pipe).is_fifo():
-            raise Fault(f"{pipe} is no named pipe")
-        self.pipe, self.list = Fifo(pipe), open(os.path.join(folder, "changes"), "a+b", buffering=0)
-        self.list.seek(0)
-        # a session that begins anew has none, and what was being written when a run was killed was not sent
-        text = b"" if is_anew else self.list.read()
-        self.list.truncate(text.rfind(b"\n") + 1)
-        if LINE.sub(b"", text[:text.rfind(b"\n") + 1]):
-            raise Fault(f"{self.list.name} has a line that no keeper wrote")
+        require(Path(pipe).is_fifo(), f"{pipe} is no named pipe")
+        self.pipe, self.path, self.handle = Fifo(pipe), Path(folder, "changes"), handle
+        self.path.touch()
+        there = self.path.read_bytes()
+        # a session that begins anew has none, and a last line that is torn was not sent
+        self.text = b"" if is_anew else there[:there.rfind(b"\n") + 1]
+        require(not LINE.sub(b"", self.text), f"{self.path} has a line that no keeper wrote")
+        if self.text != there:
+            save(self.path, self.text, handle)
         # statements, each with the number of lines before it; and how many of them have a reply
-        lines = LINE.findall(text)
+        lines = LINE.findall(self.text)
         self.known = [(int(kind), said) for kind, said in lines if kind.isdigit()]
         self.replied = sum(kind == b"=" for kind, _ in lines)
 
     def append(self, line):
         """Brings a line to the disk, whole or not at all; whether it stands there."""
-        size = os.fstat(self.list.fileno()).st_size
         try:
-            if self.list.write(line) < len(line):
-                raise OSError(f"{self.list.name} takes no whole line")
-            os.fsync(self.list)
+            save(self.path, self.text + line, self.handle)
         except OSError as fault:
-            self.list.truncate(size)
             log.error("%s is not written, as %s", line.decode(errors="replace").rstrip(), fault)
             return False
+        self.text += line
         return True
 
     def hear(self, lines):
@@ -101,29 +98,28 @@ class Changes:
                 self.known.append((lines, statement))
 
 
-def send(folder, lines):
-    """Sends statements to the run that has the folder, one after another, and gives the reply to each."""
+def send(folder, path):
+    """Sends the statements of a file to the run that has the folder, and prints the replies; whether all were taken."""
+    lines, is_taken = [it.strip() for it in Path(path).read_bytes().split(b"\n")], True
     try:
-        pipe, gone = os.open(os.path.join(folder, "control"), os.O_WRONLY | os.O_NONBLOCK), select.poll()
+        pipe = os.open(os.path.join(folder, "control"), os.O_WRONLY | os.O_NONBLOCK)
     except OSError:
         raise Fault(f"no run has {folder}: start one, then change it") from None
     # replies come in the order of the statements, so one operator waits for the other
     fcntl.flock(pipe, fcntl.LOCK_EX)
-    gone.register(pipe, 0)
-    with open(os.path.join(folder, "changes"), "rb") as changes:
-        changes.seek(0, os.SEEK_END)
-        said, replies = b"", []
-        for count, line in enumerate(lines, 1):
-            os.write(pipe, line + b"\n")
-            for looks in itertools.count():
-                is_last = gone.poll(20)
-                said += changes.read()
-                replies = [reply for kind, reply in LINE.findall(said) if not kind.isdigit()]
-                if len(replies) == count:
-                    break
-                if is_last:
-                    raise Fault(f"the run that has {folder} ended before it replied; {changes.name} has what it took")
-                if looks == LOOKS:
-                    log.warning("no reply yet: what the run says tells whether its disk is full, or rows are to come"
-                                " again first")
-            yield replies[-1].decode()
+    end = select.poll()
+    end.register(pipe, 0)
+    changes = Path(folder, "changes")
+    for line in (it for it in lines if it and not it.startswith(b"--")):
+        before = changes.stat().st_size
+        os.write(pipe, line + b"\n")
+        for looks in itertools.count():
+            is_last = end.poll(20)
+            if reply := REPLY.search(changes.read_bytes(), before):
+                print(reply[1].decode(), flush=True)
+                is_taken = is_taken and reply[1].startswith(b"ok ")
+                break
+            require(not is_last, f"the run that has {folder} ended before it replied; {changes} has what it took")
+            if looks == LOOKS:
+                log.warning("no reply yet: the run says whether its disk is full, or rows are to come again first")
+    return is_taken

@@ -1,9 +1,4 @@
-"""One run of the keeper: a loop that waits for all neighbours at once, and for none alone.
-
-Two threads stand beside it. One brings checkpoints to the disk; the other minds signals, and ends the run where bq, a
-disk or a reader does not let the loop come to its end in time.
-"""
-import functools
+"""One run of the keeper: a loop that waits for all neighbours at once, and for none alone."""
 import os
 import re
 import select
@@ -11,28 +6,21 @@ import signal
 import threading
 import time
 from concurrent.futures import ThreadPoolExecutor
-from contextlib import suppress
 
-from keeper import Fault, log
-from keeper.agree import plan_of, script_of, version_of
-from keeper.checkpoint import Checkpoint, Place, choose, creates_of, locked, numbers_in, path_of, save, sum_at, written
+from keeper import Fault, log, require
+from keeper.checkpoint import (Place, choose, creates_of, locked, numbers_in, path_of, plan_of, save, sum_at,
+                               with_program, with_script, written)
 from keeper.heard import Acks, Changes
 from keeper.session import Session
-from keeper.sink import ERROR, Sink
 from keeper.source import source_for
-from keeper.stream import Way, pass_on
+from keeper.stream import ERROR, Sink, Way, pass_on
 from keeper.watch import Watch
 
-# how many bytes of the input are kept for a bq that has to be begun again, and after how many a checkpoint is asked for
-KEPT, MUCH = 64 << 20, 16 << 20
+# after how many bytes of the input a checkpoint is asked for, and of how many the replies may be unacknowledged
+MUCH, NEWER = 16 << 20, 30
 # seconds: the longest pause before bq is begun again, how long a good one lives, between two looks, and a file rests
 LONGEST_PAUSE, SOON, TICK, REST = 30, 60, 0.1, 0.02
-# of how many checkpoints the replies may be unacknowledged
-NEWER = 30
-TAKEN = re.compile(rb"^RESUME (\d+)$", re.MULTILINE)
-# what each signal sets
-SIGNALS = {signal.SIGTERM: "is_told", signal.SIGINT: "is_told",
-           signal.SIGHUP: "is_wanted", signal.SIGUSR1: "is_curious"}
+SIGNALS = {signal.SIGTERM: "is_told", signal.SIGINT: "is_told", signal.SIGHUP: "is_wanted", signal.SIGUSR1: "is_shown"}
 
 
 class Run:
@@ -41,26 +29,23 @@ class Run:
     def __init__(self, options):
         self.options, folder = options, options.folder
         os.makedirs(folder, exist_ok=True)
-        if not os.access(folder, os.W_OK):
-            raise Fault(f"{folder} is a folder in which this user may not write: change its owner or mode")
+        require(os.access(folder, os.W_OK), f"{folder} is a folder in which this user may not write: see its mode")
         self.lock, self.sink, self.acks = locked(folder), Sink(options.output), Acks(options.ack)
-        self.kept = choose(folder, self.acks.number, options.begins)
-        self.version = version_of(options.program, self.kept)
-        self.script, self.script_sum = script_of(options, self.kept)
-        self.source = source_for(options, self.kept.place)
-        if self.kept.number:
-            self.sink.begin(self.kept, self.acks.number)
+        kept = choose(folder, self.acks.number, options.begins)
+        self.kept = with_script(options, with_program(options.program, kept))
+        self.source = source_for(options, kept.place)
+        if kept.number:
+            self.sink.begin(kept, self.acks.number)
         # what the operator said, and how much of it this session has
-        self.changes, self.applied = Changes(folder, options.control, not self.kept.number), 0
+        self.changes, self.applied = Changes(folder, self.lock, options.control, not kept.number), 0
         # no later run may go on from what is newer than the chosen one; what is older has fewer replies before it
-        for number in numbers_in(folder):
-            if number > self.kept.number:
-                os.rename(path_of(folder, number), path_of(folder, number) + ".aside")
-        self.standing = dict.fromkeys(reversed(numbers_in(folder)), self.kept.place.output)
+        for path in (path_of(folder, it) for it in numbers_in(folder) if it > kept.number):
+            path.rename(f"{path}.aside")
+        self.standing = dict.fromkeys(reversed(numbers_in(folder)), kept.place.output)
         # where a checkpoint was asked for last, and when; one that is brought to the disk; and the bq that runs
-        self.asked, self.asked_at, self.keeping, self.session = self.kept.place, time.monotonic(), None, None
-        self.is_asked = self.is_wanted = self.is_ending = self.is_told = self.is_curious = self.is_done = False
-        self.pause = self.begun_at = self.begin_at = self.next_tick = self.moved = self.stuck = 0
+        self.asked, self.asked_at, self.keeping, self.session = kept.place, time.monotonic(), None, None
+        self.is_wanted = self.is_ending = self.is_told = self.is_shown = self.is_done = False
+        self.pause = self.begin_at = self.next_tick = self.moved = self.stuck = 0
         self.disk, self.watch = ThreadPoolExecutor(1), Watch(self, options)
 
     def run(self):
@@ -87,7 +72,7 @@ class Run:
             self.watch.show(time.monotonic())
 
     def mind_signals(self):
-        """Notes what signals ask for, also while the loop waits for a disk; who ends the run gives it its grace."""
+        """In a thread: notes what signals ask for, and after its grace ends a run that waits for a disk or a reader."""
         while not self.is_told:
             setattr(self, SIGNALS[signal.sigwait(SIGNALS)], True)
         time.sleep(self.options.grace)
@@ -95,25 +80,24 @@ class Run:
             session.process.kill()
         # where somebody reads it
         if select.select([], [2], [], 0)[1]:
-            os.write(2, b"keep: ends without a last checkpoint, as bq, a disk or who reads replies did not go on for"
-                        b" %g s\n" % self.options.grace)
+            os.write(2, b"keep: no last checkpoint: bq, disk or reader did not go on for %g s\n" % self.options.grace)
         os._exit(1)
 
     def turn(self):
         """Passes on what comes: replies where they go on, and rows where bq takes them; full outlets take more."""
-        session, sink, source, replies = self.session, self.sink, self.source, self.session.replies
-        full, ways, poll = [it for it in (sink, session) if it.pending], {}, select.poll()
+        session, sink, source = self.session, self.sink, self.source
+        full, ways, poll = [it for it in (sink, session) if it.pending], [], select.poll()
         if not sink.pending:
-            ways[replies.fd] = self.from_bq.begin(not (replies.rest or session.groups or sink.behind))
+            ways.append(self.from_bq.begin(not (session.groups or sink.behind)))
         if not (session.pending or session.is_gone or self.is_ending or source.is_at_rest):
-            ways[source.fd] = self.to_bq.begin(not source.rest and self.applied == len(self.changes.known))
-        for fd in ways:
-            poll.register(fd, select.POLLIN)
+            ways.append(self.to_bq.begin(self.applied == len(self.changes.known)))
+        for way in ways:
+            poll.register(way.fd, select.POLLIN)
         for outlet in full:
             poll.register(outlet.fd, select.POLLOUT)
         pause, source.is_at_rest = 1000 * (REST if source.is_at_rest else TICK), False
-        way, piece = pass_on(ways, poll.poll, pause, self.next_tick)
-        for it in ways.values():
+        way, piece = pass_on({it.fd: it for it in ways}, poll.poll, pause, self.next_tick)
+        for it in ways:
             it.end()
         for outlet in full:
             outlet.put()
@@ -122,11 +106,10 @@ class Run:
 
     def feed(self, piece):
         """Sends what came, and has the last checkpoint taken where it ends."""
-        source = self.source
-        text = source.cut(piece or source.at_end())
-        self.session.put(self.say(text, source.lines))
-        source.count(text)
-        if source.is_ended:
+        text = self.source.cut(piece or self.source.at_end())
+        self.session.put(self.say(text, self.source.lines))
+        self.source.count(text)
+        if self.source.is_ended:
             self.end()
 
     def receive(self, piece):
@@ -142,29 +125,28 @@ class Run:
             (place, statement), self.applied = known[self.applied], self.applied + 1
             rest = text.split(b"\n", place - before)[-1]
             self.session.put(text[:len(text) - len(rest)])
-            self.session.ask(statement + b"\n", functools.partial(self.on_changed, statement, self.applied))
+            self.session.ask(statement + b"\n", self.on_changed, statement, self.applied)
             text, before = rest, place
         return text
 
     def end(self):
         """Takes a last checkpoint, where one is needed, and tells bq that no more comes."""
-        self.is_ending, place = True, self.kept.place
-        if not self.kept.number or (place.lines, place.changes) != (self.source.lines, self.applied):
+        self.is_ending = True
+        # the first one is asked for as a session begins
+        if (self.kept.place.lines, self.kept.place.changes) != (self.source.lines, self.applied):
             self.ask()
         self.session.close()
 
     def begin(self):
         """Begins bq from the newest checkpoint and what came behind it, or from the script."""
-        options, kept, place = self.options, self.kept, self.kept.place
         if self.pause:
-            self.version = version_of(options.program, kept)
-        words = [options.program, "run", *(["--rows", options.rows] if options.rows else [])]
-        text = kept.body if kept.number else self.script
-        self.session = Session(words, options.to, text, place.lines, self.sink.take)
+            self.kept = with_program(self.options.program, self.kept)
+        place = self.kept.place
+        self.session = Session(self.options, self.kept.body, place.lines, self.sink.take)
         self.to_bq = Way(self.source, self.session, self.feed, self.source.count, False)
         self.from_bq = Way(self.session.replies, self.sink, self.receive, self.sink.count, True)
-        self.begun_at, self.applied, self.asked, self.is_asked = time.monotonic(), place.changes, place, False
-        if kept.number:
+        self.applied, self.asked = place.changes, place
+        if self.kept.number:
             self.sink.behind = self.sink.written - place.output
         else:
             # no reply may be out before a checkpoint says where replies begin
@@ -183,13 +165,11 @@ class Run:
         self.is_done = session.is_closed and status == 0 and not session.groups
         if self.is_done:
             return
-        what, place = f"bq ended by itself, with {status}", self.kept.place
-        if not self.kept.number:
-            raise Fault(f"{what}, before the first checkpoint stood")
-        if self.is_told or self.source.sent.count(b"\n") < self.source.lines - place.lines:
-            raise Fault(f"{what}, and what came behind the newest checkpoint is no more kept: start again, from where"
-                        " --where says")
-        self.pause = min(LONGEST_PAUSE, 2 * self.pause) if self.pause and now - self.begun_at < SOON else 0.1
+        what = f"bq ended by itself, with {status}"
+        require(self.kept.number, f"{what}, before the first checkpoint stood")
+        is_kept = not self.is_told and self.source.sent.count(b"\n") >= self.source.lines - self.kept.place.lines
+        require(is_kept, f"{what}, and what came behind the checkpoint is no more kept: start from where --where says")
+        self.pause = min(LONGEST_PAUSE, 2 * self.pause) if self.pause and now - self.begin_at < SOON else 0.1
         log.error("%s; it is begun again in %.1f s from the newest checkpoint", what, self.pause)
         self.begin_at = now + self.pause
         self.watch.restarts += 1
@@ -207,33 +187,34 @@ class Run:
             session.process.kill()
 
     def ask(self):
-        """Asks for a checkpoint of where the input stands, and for no other until it is settled."""
-        at, self.asked_at = self.source, time.monotonic()
+        """Asks for a checkpoint of where the input stands."""
+        at, self.asked_at, self.is_wanted = self.source, time.monotonic(), False
         self.asked = Place(0, at.lines, at.bytes, 0, self.applied, at.mark, at.token, at.total)
-        self.is_asked, self.is_wanted = True, False
-        self.session.ask(b"CHECKPOINT\n", functools.partial(self.on_checkpoint, self.asked))
+        self.session.ask(b"CHECKPOINT\n", self.on_checkpoint, self.asked)
 
     def on_checkpoint(self, place, body):
         """The reply came, so all replies to what was sent before came too."""
-        place = place._replace(rows=int(TAKEN.search(body)[1]), output=self.sink.total)
-        self.keeping = self.disk.submit(self.keep, Checkpoint(body, place, None, self.version, self.script_sum))
+        place = place._replace(rows=int(re.search(rb"^RESUME (\d+)$", body, re.MULTILINE)[1]), output=self.sink.total)
+        self.keeping = self.disk.submit(self.keep, self.kept, body, place)
         if not self.kept.number:
             self.settle()
 
-    def keep(self, checkpoint):
-        """Brings a checkpoint to the disk, behind the replies before it; gives it, its size, and how long it took."""
-        folder, place, output_sum = self.options.folder, checkpoint.place, b""
-        while self.sink.written < place.output:
+    def keep(self, before, body, place):
+        """In a thread: brings a checkpoint to the disk, behind the replies before it; gives it as it stands there."""
+        options, sink, output_sum, plan = self.options, self.sink, b"", before.plan
+        while sink.written < place.output:
             time.sleep(REST)
         began = time.monotonic()
-        if self.options.output:
-            os.fsync(self.sink.fd)
-            output_sum = sum_at(self.sink.fd, place.output)
-        plan = plan_of(self.options.program, creates_of(checkpoint.body))
-        number = max(self.standing, default=self.kept.number) + 1
-        checkpoint = checkpoint._replace(plan=plan, output_sum=output_sum, number=number)
+        if options.output:
+            os.fsync(sink.fd)
+            output_sum = sum_at(sink.fd, place.output)
+        if plan is None or creates_of(before.body) != creates_of(body):
+            plan = plan_of(options.program, creates_of(body))
+        number = max(self.standing, default=0) + 1
+        checkpoint = before._replace(body=body, place=place, plan=plan, output_sum=output_sum, number=number)
         text = written(checkpoint)
-        save(path_of(folder, number), text, self.lock)
+        save(path_of(options.folder, number), text, self.lock)
+        self.watch.stored = len(text), time.monotonic() - began, time.monotonic()
         self.standing[number] = place.output
         # of those whose replies are acknowledged the newest two stay, and of those that are newer so many and the last
         acked = self.acks.number
@@ -241,23 +222,20 @@ class Run:
         newer = [it for it in self.standing if it not in covered]
         for old in covered[:-2] + newer[NEWER:-1]:
             del self.standing[old]
-            with suppress(FileNotFoundError):
-                os.remove(path_of(folder, old))
-        return checkpoint, len(text), time.monotonic() - began
+            path_of(options.folder, old).unlink(missing_ok=True)
+        return checkpoint
 
     def settle(self):
         """Lets go of the input before a checkpoint that was brought to the disk."""
-        keeping, self.keeping, self.is_asked, watch = self.keeping, None, False, self.watch
+        keeping, self.keeping = self.keeping, None
         try:
-            self.kept, watch.size, watch.seconds = keeping.result()
+            self.kept = keeping.result()
+            self.source.forget(self.kept.place.sent)
         except OSError as fault:
-            watch.failures += 1
+            self.watch.failures += 1
             if not self.kept.number or self.is_ending:
                 raise
             log.error("no checkpoint could be written: %s; the one before it stands", fault)
-            return
-        watch.stored_at = time.monotonic()
-        self.source.forget(self.kept.place.sent)
 
     def on_changed(self, statement, number, said):
         said = ERROR.sub(rb"error \2", said.rstrip(b"\n"))
@@ -274,24 +252,21 @@ class Run:
             self.settle()
         if self.session:
             self.look_at_bq(self.session)
-            if len(source.sent) > KEPT:
-                source.forget(source.total)
         elif now >= self.begin_at or self.is_told:
             self.begin()
         if self.session and not self.is_ending:
-            asked = self.asked
             # what is said now stands behind what an earlier run heard, and behind rows whose replies may have been seen
             if self.applied == len(self.changes.known) and not self.sink.behind:
                 self.changes.hear(source.lines)
                 self.say(b"", source.lines)
-            is_much = source.lines - asked.lines >= self.options.every or source.bytes - asked.bytes > MUCH
-            is_late = source.lines != asked.lines and now - self.asked_at >= self.options.seconds
+            is_much = source.lines - self.asked.lines >= self.options.every or source.bytes - self.asked.bytes > MUCH
+            is_late = source.lines != self.asked.lines and now - self.asked_at >= self.options.seconds
             if self.is_told:
                 self.end()
-            elif not self.is_asked and (self.is_wanted or is_much or is_late):
+            elif not (self.session.groups or self.keeping) and (self.is_wanted or is_much or is_late):
                 self.ask()
-        if self.is_curious:
-            self.is_curious = False
+        if self.is_shown:
+            self.is_shown = False
             log.info("%s", self.watch.line())
         if now >= self.watch.next_look:
             self.watch.show(now)

@@ -10,8 +10,7 @@ from contextlib import suppress
 from keeper import Busy, log
 from keeper.checkpoint import locked, numbers_in, path_of, save
 
-CELLS = re.compile(rb"reply ok query \w+ parts \d+ cells (\d+) ")
-CELLS_A_PAGE = 64
+CELLS, CELLS_A_PAGE = re.compile(rb"reply ok query \w+ parts \d+ cells (\d+) "), 64
 
 
 class Watch:
@@ -22,7 +21,7 @@ class Watch:
         # where numbers stand, and where they could not be written
         self.paths, self.untold = {os.path.join(options.folder, "metrics"), options.metrics} - {None}, set()
         # of the newest checkpoint of this run its size, how long the disk took for it, and when it stood
-        self.size, self.seconds, self.stored_at = 0, 0, time.monotonic()
+        self.stored = 0, 0, time.monotonic()
         self.next_look, self.rate, self.good_lines = 0, 0, run.source.lines
         # systemd names a socket for words to it
         self.address = re.sub("^@", "\0", os.environ.pop("NOTIFY_SOCKET", ""))
@@ -30,7 +29,7 @@ class Watch:
 
     def numbers(self):
         """What each number says, and the number; those that end in `total` only grow."""
-        run, kept, session = self.run, self.run.kept, self.run.session
+        run, kept, session, (size, seconds, stored_at) = self.run, self.run.kept, self.run.session, self.stored
         run.sink.count()
         unwritten = len(run.sink.pending) + (session.replies.waiting() if session else 0)
         pages = sum(-(-int(found[1]) // CELLS_A_PAGE) for found in map(CELLS.match, kept.plan or ()) if found)
@@ -40,11 +39,11 @@ class Watch:
             "rows_per_second": ("lines taken in the last second, without those in error", self.rate),
             "lines_total": ("lines of the input", run.source.lines),
             "output_bytes_total": ("bytes of replies", run.sink.total),
-            "lag_bytes": ("bytes of the input that wait", run.source.lag()),
+            "lag_bytes": ("bytes of the input that wait", run.source.waiting()),
             "unwritten_bytes": ("bytes of replies that wait for who reads them", unwritten),
-            "checkpoint_age_seconds": ("since the newest checkpoint of this run", time.monotonic() - self.stored_at),
-            "checkpoint_bytes": ("its size", self.size),
-            "checkpoint_seconds": ("how long the disk took for it", self.seconds),
+            "checkpoint_age_seconds": ("since the newest checkpoint of this run", time.monotonic() - stored_at),
+            "checkpoint_bytes": ("its size", size),
+            "checkpoint_seconds": ("how long the disk took for it", seconds),
             "checkpoint_failures_total": ("checkpoints that could not be written", self.failures),
             "pages_used": ("pages of the pool that live queries take, of 16384", pages),
             "restarts_total": ("how often bq was begun again in this run", self.restarts),
@@ -53,8 +52,8 @@ class Watch:
 
     def line(self):
         """A line that says how the run is."""
-        return (f"{self.run.kept.place.rows} rows, {self.rate:.0f} a second, {self.run.source.lag()} bytes wait,"
-                f" checkpoint {time.monotonic() - self.stored_at:.0f} s ago")
+        return (f"{self.run.kept.place.rows} rows, {self.rate:.0f} a second, {self.run.source.waiting()} bytes wait,"
+                f" checkpoint {time.monotonic() - self.stored[2]:.0f} s ago")
 
     def show(self, now):
         """Writes the numbers, and tells systemd how it is."""
@@ -63,7 +62,7 @@ class Watch:
         self.rate, self.next_look = max(0, self.good_lines - before) / seconds, now + 1
         for path in self.paths:
             try:
-                save(path, text_of(numbers).encode())
+                save(path, "".join(lines_of(numbers)).encode())
                 self.untold.discard(path)
             except OSError as fault:
                 if path not in self.untold:
@@ -75,44 +74,37 @@ class Watch:
                 self.socket.sendto(words.encode(), socket.MSG_DONTWAIT, self.address)
 
 
-def text_of(numbers):
-    """The text that Prometheus reads."""
-    lines = []
+def lines_of(numbers):
+    """What Prometheus reads."""
     for name, (says, value) in numbers.items():
-        kind = "counter" if name.endswith("total") else "gauge"
-        lines += [f"# HELP keep_{name} {says}", f"# TYPE keep_{name} {kind}"]
+        yield f"# HELP keep_{name} {says}\n# TYPE keep_{name} {'counter' if name.endswith('total') else 'gauge'}\n"
         if isinstance(value, Counter):
-            label = says.split()[-1]
-            lines += [f'keep_{name}{{{label}="{key.decode()}"}} {it}' for key, it in sorted(value.items())]
+            yield from (f'keep_{name}{{{says.split()[-1]}="{it.decode()}"}} {value[it]}\n' for it in sorted(value))
         else:
-            lines.append(f"keep_{name} {value:.10g}")
-    return "\n".join([*lines, ""])
+            yield f"keep_{name} {value:.10g}\n"
 
 
 def begin_log(path):
     """Has what is logged be said on standard error, and stand with time and level at the end of a file."""
     logging.raiseExceptions = False  # that nothing can be said ends no session
     logging.basicConfig(level=logging.INFO, format="keep: %(message)s")
+    logging.Formatter.converter = time.gmtime
     if path:
-        handler = logging.FileHandler(path)
-        form = logging.Formatter("%(asctime)s.%(msecs)03dZ %(levelname)s %(message)s", "%Y-%m-%dT%H:%M:%S")
-        form.converter = time.gmtime
-        handler.setFormatter(form)
-        log.addHandler(handler)
+        log.addHandler(handler := logging.FileHandler(path))
+        handler.setFormatter(logging.Formatter("%(asctime)s.%(msecs)03dZ %(levelname)s %(message)s", "%FT%T"))
 
 
 def page(folder):
-    """What a folder looks like, for people."""
+    """Lines that say how a folder is, for people."""
     try:
         os.close(locked(folder))
-        lines = [f"{folder}: no run has it"]
+        yield f"{folder}: no run has it"
     except Busy:
-        lines = [f"{folder}: a run has it"]
+        yield f"{folder}: a run has it"
     for number in numbers_in(folder):
         status = os.stat(path_of(folder, number))
-        lines.append(f"  checkpoint {number}: {status.st_size} bytes, written {time.ctime(status.st_mtime)}")
+        yield f"  checkpoint {number}: {status.st_size} bytes, written {time.ctime(status.st_mtime)}"
     with suppress(FileNotFoundError), open(os.path.join(folder, "metrics"), encoding="utf-8") as file:
-        lines.append(f"  as of {time.ctime(os.fstat(file.fileno()).st_mtime)}:")
+        yield f"  as of {time.ctime(os.fstat(file.fileno()).st_mtime)}:"
         for name, value in (line.rstrip("\n").rsplit(" ", 1) for line in file if not line.startswith("#")):
-            lines.append(f"    {name[5:].replace('_', ' '):<36}{value:>16}")
-    return "\n".join(lines)
+            yield f"    {name[5:].replace('_', ' '):<36}{value:>16}"

@@ -97,16 +97,10 @@ bound_of q a d t e there i l =
 
 -- the range of a column is one of that column
 from_on-attr : (d : Domain) (k : ℤ) → (from_on d k).attr ≡ d.attr
-from_on-attr d k = cases (int_lt k d.lo) where
-  cases : (b : Bool) → (cond {A = Domain} b d (record d { lo = k })).attr ≡ d.attr
-  cases true = refl
-  cases false = refl
+from_on-attr d k = refl
 
 up_to-attr : (d : Domain) (k : ℤ) → (up_to d k).attr ≡ d.attr
-up_to-attr d k = cases (int_lt d.hi k) where
-  cases : (b : Bool) → (cond {A = Domain} b d (record d { hi = k })).attr ≡ d.attr
-  cases true = refl
-  cases false = refl
+up_to-attr d k = refl
 
 cut-attr : (op : Op) (k : ℤ) (d : Domain) → (cut op k d).attr ≡ d.attr
 cut-attr Lt k d = up_to-attr d (k -ℤ pos 1)
@@ -156,7 +150,7 @@ module _ (shared : Bool) (q : QueryValue) (own : Judgement) where
   pub narrowed_none : AreNarrowed shared q own [] []
   narrowed_none = record { all = []; halved = none; are = refl }
 
-  narrowed_step : (columns : List Attr) (a : Attr) (before after : List Cheaper) → AreNarrowed shared q own columns before → PutsFirst shared q own a before after
+  narrowed_step : (columns : List Attr) (a : Attr) (before after : List Cheaper) → AreNarrowed shared q own columns before → PutsFirst shared q own (halvings_of q a) before after
       → AreNarrowed shared q own (columns ++ a ∷ []) after
   narrowed_step columns a before after are (put c one is) = record {
     all = are.all ++ c ∷ [];
@@ -166,10 +160,11 @@ module _ (shared : Bool) (q : QueryValue) (own : Judgement) where
   narrowed_step columns a before after are (left_out one is) = record { all = are.all; halved = dropped a are.halved one; are = is ∙ are.are }
 
   -- one more column of a list
-  pub narrowed_more : (list : List Attr) (i : ℕ) (d : Attr) (before after : List Cheaper) → i < length list → AreNarrowed shared q own (take i list) before
-      → PutsFirst shared q own (slice_index_or list i d) before after → AreNarrowed shared q own (take (i + 1) list) after
-  narrowed_more list i d before after l are puts =
-      subst (λ z. AreNarrowed shared q own z after) (sym (take_more list i d l)) (narrowed_step (take i list) (slice_index_or list i d) before after are puts)
+  pub narrowed_more : (list : List Attr) (ts : List Atom) (i : ℕ) (d : Attr) (before after : List Cheaper) → i < length list → ts ≡ halvings_of q (slice_index_or list i d)
+      → AreNarrowed shared q own (take i list) before → PutsFirst shared q own ts before after → AreNarrowed shared q own (take (i + 1) list) after
+  narrowed_more list ts i d before after l e are puts =
+      subst (λ z. AreNarrowed shared q own z after) (sym (take_more list i d l))
+      (narrowed_step (take i list) (slice_index_or list i d) before after are (subst (λ z. PutsFirst shared q own z before after) e puts))
 
   -- the rest of some comparisons are bounds where all are
   pub bounds-rest : (ts : List Atom) → 1 ≤ length ts → All (IsBound q) ts → All (IsBound q) (take (length ts - 1) (drop 1 ts))
@@ -193,11 +188,14 @@ module _ (shared : Bool) (q : QueryValue) (own : Judgement) where
   first-behind [] d got one l e t h = absurd (omega (arith, l))
   first-behind (u ∷ ts) d got one l e t h = behind u (subst (IsTried shared q own u) e t) (subst (λ z. IsFirst shared q own z one) (take_rest (u ∷ ts) 1) h)
 
-  -- the first that was found is put among the best ones
-  pub puts-first : (a : Attr) (list : List Atom) (got : Option Cheaper) (c : Cheaper) (before after : List Cheaper) → list ≡ halvings_of q a → got ≡ Some c → IsFirst shared q own list got
-      → after ≡ take 5 (placed c before) → PutsFirst shared q own a before after
-  puts-first a list got c before after e f one is = put c (subst (λ z. IsFirst shared q own z (Some c)) e (subst (IsFirst shared q own list) f one)) is
+  -- where the first is none that serves, the rest are gone through
+  pub puts-behind : (ts : List Atom) (d : Atom) (got : Option Numbers) (before after : List Cheaper) → 1 ≤ length ts → got ≡ None → IsTried shared q own (slice_index_or ts 0 d) got
+      → PutsFirst shared q own (take (length ts - 1) (drop 1 ts)) before after → PutsFirst shared q own ts before after
+  puts-behind ts d got before after l e t (put c one is) = put c (first-behind ts d got (Some c) l e t one) is
+  puts-behind ts d got before after l e t (left_out one is) = left_out (first-behind ts d got None l e t one) is
 
-pub if_ok : {A E : Type 0} {P Q : A → Type 0} (r : Result A E) → ((x : A) → P x → Q x) → IfOk r P → IfOk r Q
-if_ok (Ok x) f h = f x h
-if_ok (Err e) f h = tt
+-- the halvings of a listed column are bounds of the query
+pub listed-halvings : (q : QueryValue) (list : List Attr) (ts : List Atom) (i : ℕ) (d : Attr) → list ≡ attrs_of q.atoms → i < length list → ts ≡ halvings_of q (slice_index_or list i d) → All (IsBound q) ts
+listed-halvings q list ts i d e l is =
+    subst (All (IsBound q)) (sym is)
+    (halvings-are q (slice_index_or list i d) (Contains-from_has (attrs_of q.atoms) (slice_index_or list i d) (subst (λ z. Has z (slice_index_or list i d)) e (at_place list i d l))))

@@ -4,6 +4,7 @@ pub mod FewParts
 pub mod Limits
 pub mod SetSearchLaws
 pub mod FewNames
+pub mod FormJudged
 pub mod MoreAtoms
 pub mod Placing
 pub mod Never

@@ -72,6 +72,12 @@ some_parts q parts are =
 pub some_tested : (q : QueryValue) (parts : List Part) → AreParts q (sign_lists parts) → (not (nat_eq (length parts) 0) ≡ true → HasPart q) × (HasPart q → not (nat_eq (length parts) 0) ≡ true)
 some_tested q parts are = (λ e. (some_parts q parts are).0 (some_test (length parts) e), λ h. test_some (length parts) ((some_parts q parts are).1 h))
 
+pub some_many : (q : QueryValue) (parts : List Part) (n : ℕ) → n ≡ length parts → AreParts q (sign_lists parts) → (0 < n → HasPart q) × (HasPart q → 0 < n)
+some_many q parts n e are = rw e (some_parts q parts are)
+
+pub some_listed : (q : QueryValue) (parts : List Part) (n : ℕ) → n ≡ length parts → AreParts q (sign_lists parts) → (not (nat_eq n 0) ≡ true → HasPart q) × (HasPart q → not (nat_eq n 0) ≡ true)
+some_listed q parts n e are = rw e (some_tested q parts are)
+
 -- a query with many parts has one
 pub some_more : (q : QueryValue) (n : ℕ) → HasMoreParts q n → HasPart q
 some_more q n more = by more.some more.each more.more

@@ -1,5 +1,6 @@
 -- Narrower ranges of single columns that lift a limit.
 use Rattle.std.specs.Prelude.{◌≡◌, ℕ, zero, suc, ◌+◌, ◌/◌, ℤ, pos, neg_ℤ, ◌+ℤ◌, ◌-ℤ◌, int_lt, nat_abs, nat_eq, Bool, ◌&&◌, if◌then◌else◌, List, [], ◌∷◌, ◌++◌, take, ⊤}
+use Rattle.std.specs.Int.{int_max, int_min}
 use Rattle.std.specs.declared.option.Option.{Option}
 use Rattle.std.specs.declared.option.Option.TheVariants.{None, Some}
 use Rattle.sem_query.specs.declared.atom.Attr.{Attr}
@@ -27,11 +28,11 @@ turned Ne = Ne
 
 -- what is left of a range from an integer on
 abbrev pub from_on : Domain → ℤ → Domain
-from_on d k = if int_lt k d.lo then d else record d { lo = k }
+from_on d k = record d { lo = int_max d.lo k }
 
 -- what is left of a range up to an integer
 abbrev pub up_to : Domain → ℤ → Domain
-up_to d k = if int_lt d.hi k then d else record d { hi = k }
+up_to d k = record d { hi = int_min d.hi k }
 
 -- what a comparison with an integer leaves of a range
 abbrev pub cut : Op → ℤ → Domain → Domain
@@ -101,10 +102,10 @@ pub record AreNarrowed (shared : Bool) (q : QueryValue) (own : Judgement) (colum
 abbrev pub AreNarrowings : Bool → QueryValue → Judgement → List Cheaper → Type 0
 AreNarrowings shared q own list = AreNarrowed shared q own (attrs_of q.atoms) list
 
--- the widest lower half of the range of a column with which the query is accepted is put among the best ones
-pub data PutsFirst (shared : Bool) (q : QueryValue) (own : Judgement) (a : Attr) (before after : List Cheaper) : Type 0 where
-  put : (c : Cheaper) → IsFirst shared q own (halvings_of q a) (Some c) → after ≡ take 5 (placed c before) → PutsFirst shared q own a before after
-  left_out : IsFirst shared q own (halvings_of q a) None → after ≡ before → PutsFirst shared q own a before after
+-- the first of some comparisons with which the query is accepted is put among the best ones
+pub data PutsFirst (shared : Bool) (q : QueryValue) (own : Judgement) (ts : List Atom) (before after : List Cheaper) : Type 0 where
+  put : (c : Cheaper) → IsFirst shared q own ts (Some c) → after ≡ take 5 (placed c before) → PutsFirst shared q own ts before after
+  left_out : IsFirst shared q own ts None → after ≡ before → PutsFirst shared q own ts before after
 
 -- a side that is an integer of at most 15 digits, or a column
 abbrev pub IsShortSide : Element → Type 0

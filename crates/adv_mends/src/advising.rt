@@ -4,17 +4,18 @@ ghost use Rattle.adv_mends.specs.declared.mend.Mend.TheVariants as changes;
 ghost use Rattle.adv_mends.specs.Mended.{Mends};
 ghost use Rattle.adv_mends.specs.Advised.{breaks_condition, has_cost, passes_limit, is_lifted, AreSetsFor, AreBetterNumbers, AreComparisonsFor, AreNarrowingsFor, IsAdvice};
 ghost use Rattle.adv_mends.specs.Sets.{IsMendOf};
+ghost use Rattle.adv_mends.specs.Violating.{AreChainsFor, Shows};
 
-use crate::comparing::{BestComparisons, Cheaper, best_comparisons, tried};
+use crate::comparing::{Base, BestComparisons, Cheaper, best_comparisons, tried};
 use crate::dearest::{DearPart, dearest_for};
 use crate::judging::{Judgement, judge};
 use crate::meeting::never_meets;
 use crate::mend::{ChangeKind, Mend};
 use crate::narrowing::narrowings;
 use crate::searching::{LeastSets, least_sets};
-use crate::violating::chains_for;
 use crate::writing::mends;
-use adv_order::Chain;
+use adv_order::{Chain, chains_of};
+use plan_parts::{SplitError, split};
 use sem_query::{Numbers, Query};
 use std::alloc::{AllocError, Global};
 
@@ -81,91 +82,88 @@ fn passes_limit(judgement: Judgement) -> bool
 fn is_lifted(cheaper: &[Cheaper], compact: Option<Numbers>, shared: Option<Numbers>) -> bool
     ensures { result ≡ is_lifted cheaper.now compact shared }
 {
-    match (cheaper, compact, shared) {
-        ([], None, None) => false,
-        _ => true,
+    !cheaper.is_empty() || compact.is_some() || shared.is_some()
+}
+
+// The chains of the part that breaks a condition first, where one does and the query is not compact. `AllocError` where a list finds no memory.
+fn chains_for(alloc: Global, query: &Query, own: Judgement) -> Result<Vec<Chain>, AllocError>
+    requires { Shows query.now own }
+    ensures { IfOk result (λ list. AreChainsFor query.now own list.items) }
+{
+    if query.compact() {
+        return Ok(Vec::new(alloc));
+    }
+    match own {
+        Judgement::Violation { part, .. } => match split(alloc, query) {
+            Ok(parts) => chains_of(alloc, query, &parts[part as usize - 1]),
+            Err(SplitError::TooManyParts) => unreachable!(),
+            Err(SplitError::Memory) => Err(AllocError),
+        },
+        _ => Ok(Vec::new(alloc)),
     }
 }
 
 // Whether DISTINCT mends the query, where a condition refuses it and it has none.
-fn distinct_mends(alloc: Global, query: &Query, own: Judgement) -> Result<bool, AllocError>
-    ensures { IfOk result (λ is. IsTrue is ↔ (IsTrue (breaks_condition own) × IsFalse query.now.distinct × Mends changes.Distinct query.now)) }
+fn distinct_mends(base: &Base<'_>) -> Result<bool, AllocError>
+    ensures { IfOk result (λ is. IsTrue is ↔ (IsTrue (breaks_condition base.now.own) × IsFalse base.now.query.now.distinct × Mends changes.Distinct base.now.query.now)) }
 {
-    if query.distinct() || !breaks_condition(own) {
+    if base.query.distinct() || !breaks_condition(base.own) {
         return Ok(false);
     }
-    mends(alloc, query, &Mend::Distinct)
+    mends(base.alloc, base.query, &Mend::Distinct)
 }
 
 // The least sets of columns that mend the query in one of two ways, where a condition refuses it.
-fn sets_for(
-    alloc: Global,
-    query: &Query,
-    own: Judgement,
-    kind: ChangeKind,
-) -> Result<LeastSets, AllocError>
-    ensures { IfOk result (AreSetsFor kind query.now own) }
+fn sets_for(base: &Base<'_>, kind: ChangeKind) -> Result<LeastSets, AllocError>
+    ensures { IfOk result (AreSetsFor kind base.now.query.now base.now.own) }
 {
-    if breaks_condition(own) {
-        least_sets(alloc, query, MOST_SETS, kind)
-    } else {
-        Ok(LeastSets {
-            found: Vec::new(alloc),
-            cut_short: false,
-        })
+    if breaks_condition(base.own) {
+        return least_sets(base.alloc, base.query, MOST_SETS, kind);
     }
+    Ok(LeastSets {
+        found: Vec::new(base.alloc),
+        cut_short: false,
+    })
 }
 
 // The numbers of the query with a change, where it has it not and has fewer cells with it.
-fn better_numbers(
-    alloc: Global,
-    query: &Query,
-    shared: bool,
-    own: Judgement,
-    mend: &Mend,
-    has: bool,
-) -> Result<Option<Numbers>, AllocError>
-    requires { IsMendOf query.now mend.now }
-    ensures { IfOk result (AreBetterNumbers shared query.now own mend.now has) }
+fn better_numbers(base: &Base<'_>, mend: &Mend, has: bool) -> Result<Option<Numbers>, AllocError>
+    requires { IsMendOf base.now.query.now mend.now }
+    ensures { IfOk result (AreBetterNumbers base.now.shared base.now.query.now base.now.own mend.now has) }
 {
     if has {
         return Ok(None);
     }
-    tried(alloc, query, shared, own, mend)
+    tried(base, mend)
 }
 
 // The best comparisons, where the query is refused or has more than one part and is not compact.
-fn comparisons_for(
-    alloc: Global,
-    query: &Query,
-    shared: bool,
-    own: Judgement,
-) -> Result<BestComparisons, AllocError>
-    ensures { IfOk result (λ found. AreComparisonsFor shared query.now own found.best.items found.cut_short) }
+fn comparisons_for(base: &Base<'_>) -> Result<BestComparisons, AllocError>
+    ensures { IfOk result (λ found. AreComparisonsFor base.now.shared base.now.query.now base.now.own found.best.items found.cut_short) }
 {
-    if query.compact() || !has_cost(own) {
+    if base.query.compact() || !has_cost(base.own) {
         return Ok(BestComparisons {
-            best: Vec::new(alloc),
+            best: Vec::new(base.alloc),
             cut_short: false,
         });
     }
-    best_comparisons(alloc, query, shared, own, MOST_COMPARISONS)
+    best_comparisons(
+        base.alloc,
+        base.query,
+        base.shared,
+        base.own,
+        MOST_COMPARISONS,
+    )
 }
 
 // The widest ranges of single columns that lift the limit which refuses the query, where no other change does.
-fn narrowings_for(
-    alloc: Global,
-    query: &Query,
-    shared: bool,
-    own: Judgement,
-    lifted: bool,
-) -> Result<Vec<Cheaper>, AllocError>
-    ensures { IfOk result (λ list. AreNarrowingsFor shared query.now own lifted list.items) }
+fn narrowings_for(base: &Base<'_>, lifted: bool) -> Result<Vec<Cheaper>, AllocError>
+    ensures { IfOk result (λ list. AreNarrowingsFor base.now.shared base.now.query.now base.now.own lifted list.items) }
 {
-    if lifted || !passes_limit(own) {
-        return Ok(Vec::new(alloc));
+    if lifted || !passes_limit(base.own) {
+        return Ok(Vec::new(base.alloc));
     }
-    narrowings(alloc, query, shared, own)
+    narrowings(base.alloc, base.query, base.shared, base.own)
 }
 
 /// Returns what the query comes to, with shared cells or without, and what would mend it or make it cheaper, each change tried by the decision on the query with it.
@@ -179,21 +177,20 @@ pub fn advise(alloc: Global, query: &Query, shared: bool) -> Result<QueryAdvice,
     let never = never_meets(alloc, query)?;
     let chains = chains_for(alloc, query, judgement)?;
     let dearest = dearest_for(alloc, query, judgement)?;
-    let distinct = distinct_mends(alloc, query, judgement)?;
-    let bounds = sets_for(alloc, query, judgement, ChangeKind::Bounds)?;
-    let domains = sets_for(alloc, query, judgement, ChangeKind::Domains)?;
-    let compact = better_numbers(
+    let base = Base {
         alloc,
         query,
         shared,
-        judgement,
-        &Mend::Compact,
-        query.compact(),
-    )?;
-    let fewer = better_numbers(alloc, query, shared, judgement, &Mend::Shared, shared)?;
-    let BestComparisons { best, cut_short } = comparisons_for(alloc, query, shared, judgement)?;
+        own: judgement,
+    };
+    let distinct = distinct_mends(&base)?;
+    let bounds = sets_for(&base, ChangeKind::Bounds)?;
+    let domains = sets_for(&base, ChangeKind::Domains)?;
+    let compact = better_numbers(&base, &Mend::Compact, query.compact())?;
+    let fewer = better_numbers(&base, &Mend::Shared, shared)?;
+    let BestComparisons { best, cut_short } = comparisons_for(&base)?;
     let lifted = is_lifted(best.as_slice(), compact, fewer);
-    let narrowed = narrowings_for(alloc, query, shared, judgement, lifted)?;
+    let narrowed = narrowings_for(&base, lifted)?;
     let cut_short = bounds.cut_short || domains.cut_short || cut_short;
     Ok(QueryAdvice {
         judgement,

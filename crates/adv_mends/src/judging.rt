@@ -1,13 +1,11 @@
 //! What a query comes to.
-ghost use Rattle.std.specs.Prelude.{◌≡◌, IsFalse, Some, IfOk};
-ghost use Rattle.sem_query.specs.Query.{is_filter};
-ghost use Rattle.sem_forms.specs.Forms.{HasWholeForm, IsWholeFormOr};
+ghost use Rattle.std.specs.Prelude.{◌≡◌, Some, IfOk};
 ghost use Rattle.adv_mends.specs.Sets.{IsMendOf};
 ghost use Rattle.adv_mends.specs.Numbered.{IsJudgement, AreNumbersWith, accepted, shares};
 
 use crate::mend::Mend;
 use crate::writing::written;
-use plan_forms::{PartsRefusal, parts_plan, whole_form};
+use plan_forms::{PartsRefusal, form_plan};
 use sem_query::{Attr, Condition, Numbers, Plan, Query, Which};
 use std::alloc::{AllocError, Global};
 
@@ -33,13 +31,15 @@ pub enum Judgement {
     ManyParts,
 }
 
-// What a query that is no filter, and whose whole form does not fit, comes to, by its parts.
-fn judge_parts(alloc: Global, query: &Query, shared: bool) -> Result<Judgement, AllocError>
-    requires plain { IsFalse (is_filter query.now) }
-    requires split { ¬ HasWholeForm query.now }
+/// Returns what the query comes to, with shared cells or without, as CREATE QUERY judges it but for the pages that are free. `AllocError` where the list of
+/// parts, or a plan, finds no memory.
+pub fn judge(alloc: Global, query: &Query, shared: bool) -> Result<Judgement, AllocError>
     ensures { IfOk result (IsJudgement shared query.now) }
 {
-    match parts_plan(alloc, query, shared) {
+    if query.is_filter() {
+        return Ok(Judgement::Filter);
+    }
+    match form_plan(alloc, query, shared) {
         Ok(Plan::Filter) => Ok(Judgement::Filter),
         Ok(Plan::Parts { parts: _, numbers }) => Ok(Judgement::Accepted(numbers)),
         Err(PartsRefusal::TooManyParts) => Ok(Judgement::ManyParts),
@@ -59,42 +59,11 @@ fn judge_parts(alloc: Global, query: &Query, shared: bool) -> Result<Judgement, 
     }
 }
 
-// What a query comes to of which this plan is the whole form that fits.
-fn judge_whole(query: &Query, shared: bool, plan: &Plan) -> Judgement
-    requires plain { IsFalse (is_filter query.now) }
-    requires whole { IsWholeFormOr query.now (Some plan.now) }
-    ensures { IsJudgement shared query.now result }
-{
-    // Named for the proof alone: the contract speaks of them.
-    let (_query, _shared) = (query, shared);
-    match plan {
-        Plan::Filter => Judgement::Filter,
-        Plan::Parts { parts: _, numbers } => Judgement::Accepted(*numbers),
-    }
-}
-
-/// Returns what the query comes to, with shared cells or without, as CREATE QUERY judges it but for the pages that are free. `AllocError` where the list of
-/// parts, or a plan, finds no memory.
-pub fn judge(alloc: Global, query: &Query, shared: bool) -> Result<Judgement, AllocError>
-    ensures { IfOk result (IsJudgement shared query.now) }
-{
-    if query.is_filter() {
-        return Ok(Judgement::Filter);
-    }
-    match whole_form(alloc, query)? {
-        Some(plan) => Ok(judge_whole(query, shared, &plan)),
-        None => judge_parts(alloc, query, shared),
-    }
-}
-
 // Whether boxes that are the same have their cells once, with a change.
 fn shares(mend: &Mend, shared: bool) -> bool
     ensures { result ≡ shares mend.now shared }
 {
-    match mend {
-        Mend::Shared => true,
-        _ => shared,
-    }
+    matches!(mend, Mend::Shared) || shared
 }
 
 // The numbers of a judgement that accepts.
@@ -119,10 +88,10 @@ pub fn numbers_with(
     ensures { IfOk result (AreNumbersWith shared query.now mend.now) }
 {
     match written(query, mend) {
-        Some(other) => match judge(alloc, &other, shares(mend, shared)) {
-            Ok(judgement) => Ok(accepted(judgement)),
-            Err(fault) => Err(fault),
-        },
+        Some(other) => {
+            let judgement = judge(alloc, &other, shares(mend, shared))?;
+            Ok(accepted(judgement))
+        }
         None => Ok(None),
     }
 }

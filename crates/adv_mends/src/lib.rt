@@ -11,28 +11,22 @@
 #![tactic(auto)]
 
 mod advising;
-mod columns;
 mod comparing;
 mod dearest;
-mod ends;
 mod judging;
 mod meeting;
 mod mend;
-mod naming;
 mod narrowing;
 mod searching;
-mod sets;
-mod violating;
 mod writing;
 
 pub use adv_order::{Chain, Step};
 pub use advising::{QueryAdvice, advise};
-pub use columns::ColumnSet;
 pub use comparing::{BestComparisons, Cheaper, best_comparisons};
 pub use dearest::{DearPart, dearest_for};
 pub use judging::{Judgement, judge, numbers_with};
 pub use meeting::{meets, never_meets, stands};
-pub use mend::{ChangeKind, Ends, Mend};
+pub use mend::{ChangeKind, ColumnSet, Ends, Mend};
 pub use narrowing::narrowings;
 pub use searching::{LeastSets, least_sets};
 pub use writing::{mends, stays_met, written};

@@ -1,69 +1,34 @@
 //! Whether a query meets all conditions and has a part.
-ghost use Rattle.std.specs.Prelude.{◌↔◌, ◌≤◌, IsTrue, IsFalse, length, IfOk};
+ghost use Rattle.std.specs.Prelude.{◌↔◌, ◌≤◌, IsTrue, IsFalse, length, IfOk, MatchOption};
 ghost use Rattle.sem_query.specs.Query.{is_filter};
 ghost use Rattle.sem_query.specs.Parts.{AreParts, sign_lists};
+ghost use Rattle.plan_forms.specs.Planned.{AreDraftedByParts};
 ghost use Rattle.adv_mends.specs.Meeting.{Meets, HasPart, Stands, MeetsWith, NeverMeets};
 
 use plan_conditions::decide;
 use plan_forms::{PartsRefusal, parts_drafts};
 use plan_parts::{SplitError, split};
-use sem_query::{Decision, Part, Query};
+use sem_query::{Decision, Part, PartPlan, Query};
 use std::alloc::{AllocError, Global};
-
-// Whether a query of these parts has one.
-fn is_some(query: &Query, parts: &[Part]) -> bool
-    requires { AreParts query.now (sign_lists parts.now) }
-    ensures { IsTrue result ↔ HasPart query.now }
-{
-    // Named for the proof alone: the contract speaks of it.
-    let _query = query;
-    parts.len() != 0
-}
 
 // Whether some combination of rows meets the comparisons of a query. `AllocError` where the list of parts finds no memory.
 fn has_part(alloc: Global, query: &Query) -> Result<bool, AllocError>
     ensures { IfOk result (λ has. IsTrue has ↔ HasPart query.now) }
 {
     match split(alloc, query) {
-        Ok(parts) => Ok(is_some(query, &parts)),
+        Ok(parts) => Ok(parts.len() != 0),
         Err(SplitError::TooManyParts) => Ok(true),
         Err(SplitError::Memory) => Err(AllocError),
     }
 }
 
-// How many parts a query has that is not compact, no filter, and has these, where they break no condition.
-fn count_plain(query: &Query, parts: &[Part]) -> Option<usize>
-    requires plain { IsFalse query.now.compact }
-    requires parts { AreParts query.now (sign_lists parts.now) }
-    requires few { length parts.now ≤ 4096 }
-    ensures { MeetsWith query.now result }
-{
-    match decide(query, parts) {
-        Decision::Bounded => Some(parts.len()),
-        Decision::Violation { .. } => None,
-    }
-}
-
-// The same, where the parts have still to be found.
-fn plain_parts(alloc: Global, query: &Query) -> Result<Option<usize>, AllocError>
-    requires filter { IsFalse (is_filter query.now) }
-    requires plain { IsFalse query.now.compact }
-    ensures { IfOk result (MeetsWith query.now) }
-{
-    match split(alloc, query) {
-        Ok(parts) => Ok(count_plain(query, &parts)),
-        Err(SplitError::TooManyParts) => Ok(None),
-        Err(SplitError::Memory) => Err(AllocError),
-    }
-}
-
-// How many parts a query that is no filter has, where there are not too many and none breaks a condition, by the plans of all.
-fn drafted_parts(alloc: Global, query: &Query) -> Result<Option<usize>, AllocError>
+// The plans of all parts of a query that is no filter, where there are not too many and none breaks a condition.
+pub(crate) fn met_drafts(alloc: Global, query: &Query) -> Result<Option<Vec<PartPlan>>, AllocError>
     requires { IsFalse (is_filter query.now) }
-    ensures { IfOk result (MeetsWith query.now) }
+    ensures { IfOk result (λ found. MatchOption found (¬ Meets query.now) (λ plans. AreDraftedByParts query.now plans.items)) }
 {
     match parts_drafts(alloc, query) {
-        Ok(plans) => Ok(Some(plans.len())),
+        Ok(plans) => Ok(Some(plans)),
         Err(PartsRefusal::Memory) => Err(AllocError),
         Err(PartsRefusal::TooManyParts) => Ok(None),
         Err(
@@ -82,15 +47,32 @@ fn drafted_parts(alloc: Global, query: &Query) -> Result<Option<usize>, AllocErr
     }
 }
 
+// How many parts a query that is no filter has, where there are not too many and none breaks a condition, by the plans of all.
+fn drafted_parts(alloc: Global, query: &Query) -> Result<Option<usize>, AllocError>
+    requires { IsFalse (is_filter query.now) }
+    ensures { IfOk result (MeetsWith query.now) }
+{
+    match met_drafts(alloc, query)? {
+        Some(plans) => Ok(Some(plans.len())),
+        None => Ok(None),
+    }
+}
+
 // How many parts a query that is no filter has, where it meets all conditions. A query that is not compact is decided without plans.
 fn parts_met(alloc: Global, query: &Query) -> Result<Option<usize>, AllocError>
     requires { IsFalse (is_filter query.now) }
     ensures { IfOk result (MeetsWith query.now) }
 {
     if query.compact() {
-        drafted_parts(alloc, query)
-    } else {
-        plain_parts(alloc, query)
+        return drafted_parts(alloc, query);
+    }
+    match split(alloc, query) {
+        Ok(parts) => match decide(query, &parts) {
+            Decision::Bounded => Ok(Some(parts.len())),
+            Decision::Violation { .. } => Ok(None),
+        },
+        Err(SplitError::TooManyParts) => Ok(None),
+        Err(SplitError::Memory) => Err(AllocError),
     }
 }
 
@@ -102,10 +84,8 @@ pub fn meets(alloc: Global, query: &Query) -> Result<bool, AllocError>
     if query.is_filter() {
         return Ok(true);
     }
-    match parts_met(alloc, query)? {
-        Some(_parts) => Ok(true),
-        None => Ok(false),
-    }
+    let parts = parts_met(alloc, query)?;
+    Ok(parts.is_some())
 }
 
 /// Returns whether the query has a part and meets all conditions: a filter does meet them, and else it has not too many parts, and none of them breaks one.

@@ -1,15 +1,14 @@
 //! Narrower ranges of single columns that lift a limit.
-ghost use Rattle.std.specs.Prelude.{◌≡◌, if◌then◌else◌, ◌+◌, ◌≤◌, ◌++◌, ◌+ℤ◌, ◌≤ℤ◌, neg_ℤ, pos, length, All, Contains, OnOk, IfOk};
-ghost use Rattle.sem_query.specs.Query.{attr_eq, attrs_of, IsShort};
+ghost use Rattle.std.specs.Prelude.{◌≡◌, if◌then◌else◌, ◌+◌, ◌≤◌, ◌++◌, ◌+ℤ◌, ◌≤ℤ◌, neg_ℤ, pos, length, IfOk};
+ghost use Rattle.sem_query.specs.Query.{attr_eq, IsShort};
 ghost use Rattle.sem_query.specs.declared.atom.Op.TheVariants as op;
-ghost use Rattle.adv_mends.specs.Mended.{compared, IsBound};
-ghost use Rattle.adv_mends.specs.Narrowed.{turned, from_on, up_to, cut, cut_by, domain_or, range_of, is_enclosed, halvings_from, halvings_of, IsFirst, PutsFirst, AreNarrowings, AreShortSides};
+ghost use Rattle.adv_mends.specs.Mended.{compared};
+ghost use Rattle.adv_mends.specs.Narrowed.{turned, from_on, up_to, cut, cut_by, domain_or, range_of, is_enclosed, halvings_from, halvings_of, AreNarrowings, AreShortSides};
 
-use crate::comparing::{Cheaper, put, tried};
-use crate::ends::{GREATEST, widest};
+use crate::comparing::{Base, Cheaper, add_first};
 use crate::judging::Judgement;
-use crate::mend::Mend;
-use crate::writing::compared;
+use crate::mend::{GREATEST, widest_ends};
+use crate::writing::{compared, domain_on};
 use arrayvec::ArrayVec;
 use sem_query::{Atom, Attr, Domain, Element, Op, Query, is_same};
 use std::alloc::{AllocError, Global};
@@ -35,10 +34,9 @@ fn turned(op: Op) -> Op
 fn from_on(range: Domain, least: i64) -> Domain
     ensures { result ≡ from_on range least }
 {
-    if least < range.lo {
-        range
-    } else {
-        Domain { lo: least, ..range }
+    Domain {
+        lo: range.lo.max(least),
+        ..range
     }
 }
 
@@ -46,13 +44,9 @@ fn from_on(range: Domain, least: i64) -> Domain
 fn up_to(range: Domain, greatest: i64) -> Domain
     ensures { result ≡ up_to range greatest }
 {
-    if range.hi < greatest {
-        range
-    } else {
-        Domain {
-            hi: greatest,
-            ..range
-        }
+    Domain {
+        hi: range.hi.min(greatest),
+        ..range
     }
 }
 
@@ -93,7 +87,7 @@ fn domain_or(domains: &[Domain], column: Attr) -> Domain
     ensures { result ≡ domain_or domains.now column }
 {
     match domains {
-        [] => widest(column),
+        [] => domain_on(column, widest_ends()),
         [domain, others @ ..] => {
             if is_same(domain.attr, column) {
                 *domain
@@ -139,10 +133,7 @@ fn add_halvings(list: &mut ArrayVec<Atom, 20>, range: Domain, width: u64, more: 
     requires high { (range.lo +ℤ pos width) ≤ℤ pos 999999999999999 }
     ensures { list.new.items ≡ list.old.items ++ halvings_from range width more }
 {
-    if more == 0 {
-        return;
-    }
-    if width == 0 {
+    if more == 0 || width == 0 {
         return;
     }
     list.push(within(range, width / 2));
@@ -162,48 +153,6 @@ fn halvings_of(query: &Query, column: Attr) -> ArrayVec<Atom, 20>
     list
 }
 
-// The first of some comparisons with which the query is accepted with at least one part, with its numbers.
-fn first_of(
-    alloc: Global,
-    query: &Query,
-    shared: bool,
-    own: Judgement,
-    atoms: &[Atom],
-) -> Result<Option<Cheaper>, AllocError>
-    requires { All (IsBound query.now) atoms.now }
-    ensures { IfOk result (IsFirst shared query.now own atoms.now) }
-{
-    match atoms {
-        [] => Ok(None),
-        [atom, others @ ..] => match tried(alloc, query, shared, own, &Mend::Comparison(*atom))? {
-            Some(numbers) => Ok(Some(Cheaper {
-                atom: *atom,
-                numbers,
-            })),
-            None => first_of(alloc, query, shared, own, others),
-        },
-    }
-}
-
-// Puts the widest half of the range of a column with which the query is accepted among the best ones.
-fn add_narrowing(
-    alloc: Global,
-    query: &Query,
-    shared: bool,
-    own: Judgement,
-    column: Attr,
-    best: &mut Vec<Cheaper>,
-) -> Result<(), AllocError>
-    requires { Contains (attrs_of query.now.atoms) column }
-    ensures { OnOk result (PutsFirst shared query.now own column best.old.items best.new.items) }
-{
-    let atoms = halvings_of(query, column);
-    match first_of(alloc, query, shared, own, atoms.as_slice())? {
-        Some(cheaper) => put(best, cheaper),
-        None => Ok(()),
-    }
-}
-
 /// Returns for each column of the query that has a range the comparison that leaves the widest lower half of it with which the query is accepted with at least one
 /// part: at most five, with its numbers, the fewest cells first. A range is halved up to 20 times. `AllocError` where a list or a plan finds no memory.
 pub fn narrowings(
@@ -214,9 +163,15 @@ pub fn narrowings(
 ) -> Result<Vec<Cheaper>, AllocError>
     ensures { IfOk result (λ list. AreNarrowings shared query.now own list.items) }
 {
+    let base = Base {
+        alloc,
+        query,
+        shared,
+        own,
+    };
     let mut best = Vec::new(alloc);
     'columns: for column in query.attrs() {
-        add_narrowing(alloc, query, shared, own, *column, &mut best)?;
+        add_first(&base, halvings_of(query, *column).as_slice(), &mut best)?;
     }
     Ok(best)
 }

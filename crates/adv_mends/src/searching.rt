@@ -1,17 +1,17 @@
 //! The search for least sets of columns.
-ghost use Rattle.std.specs.Prelude.{◌≡◌, ◌↔◌, ◌<◌, ◌≤◌, length, min, IsTrue, OnOk, IfOk};
+ghost use Rattle.std.specs.Prelude.{◌≡◌, ◌↔◌, ◌<◌, ◌≤◌, length, min, IsTrue, OnOk, IfOk, ◌+◌, ◌++◌, filter, not};
+ghost use Rattle.std.specs.List.{list_any};
+ghost use Rattle.sem_query.specs.Query.{attr_eq};
 ghost use Rattle.adv_mends.specs.Mended.{on};
 ghost use Rattle.adv_mends.specs.Ends.{MendsBy};
 ghost use Rattle.adv_mends.specs.Sublists.{IsSublist};
-ghost use Rattle.adv_mends.specs.Sets.{HasWithin, AreLeastAmong, AreLeastSets, open_columns, sets_of};
+ghost use Rattle.adv_mends.specs.Sets.{HasWithin, AreLeastAmong, AreLeastSets, has_domain, with_column, columns_with, open_columns, sets_with, sets_of};
 ghost use Rattle.adv_mends.specs.SetSearch.{behind, Looks};
 
-use crate::columns::ColumnSet;
-use crate::ends::{above, below, span, widest_ends};
-use crate::mend::{ChangeKind, Ends, Mend};
-use crate::sets::{open_columns, sets_of};
+use crate::mend::{ChangeKind, ColumnSet, Ends, Mend, above, below, copied, span, widest_ends};
 use crate::writing::{mends, stays_met};
-use sem_query::{Attr, Query, is_same};
+use arrayvec::ArrayVec;
+use sem_query::{Attr, Domain, Query, is_same};
 use std::alloc::{AllocError, Global};
 
 /// Least sets of columns, and whether sets were left out of the search that found them.
@@ -19,6 +19,100 @@ use std::alloc::{AllocError, Global};
 pub struct LeastSets {
     pub found: Vec<ColumnSet>,
     pub cut_short: bool,
+}
+
+fn is_among(columns: &[Attr], column: Attr) -> bool
+    ensures { result ≡ list_any (λ b. attr_eq b column) columns.now }
+{
+    columns.iter().any(|b| is_same(*b, column))
+}
+
+fn has_domain(domains: &[Domain], column: Attr) -> bool
+    ensures { result ≡ has_domain domains.now column }
+{
+    domains.iter().any(|d| is_same(d.attr, column))
+}
+
+// Adds a column behind some, where it is not among them.
+fn add_column(columns: &mut ArrayVec<Attr, 20>, column: Attr)
+    requires { length columns.old.items < 20 }
+    ensures { columns.new.items ≡ with_column columns.old.items column }
+{
+    if !is_among(columns.as_slice(), column) {
+        columns.push(column);
+    }
+}
+
+// Some columns, and behind them those of others that are not among them.
+fn columns_with(columns: &[Attr], others: &[Attr]) -> ArrayVec<Attr, 20>
+    requires { length columns.now + length others.now ≤ 20 }
+    ensures { result.items ≡ columns_with columns.now others.now }
+{
+    let mut list = copied(columns);
+    'columns: for column in others {
+        add_column(&mut list, *column);
+    }
+    list
+}
+
+// Those of some columns that have no domain, in their order.
+fn without_domains(columns: &[Attr], domains: &[Domain]) -> ArrayVec<Attr, 20>
+    requires { length columns.now ≤ 20 }
+    ensures { result.items ≡ filter (λ a. not (has_domain domains.now a)) columns.now }
+{
+    let mut list = ArrayVec::new();
+    'columns: for column in columns {
+        if !has_domain(domains, *column) {
+            list.push(*column);
+        }
+    }
+    list
+}
+
+// The columns that may be given a domain: the attributes, and then the selected columns that are no attributes, without those that have one.
+#[tactic(auto, unfolding(crate::specs::Sets::open_columns))]
+fn open_columns(query: &Query) -> ArrayVec<Attr, 20>
+    ensures { result.items ≡ open_columns query.now }
+{
+    let columns = columns_with(query.attrs(), query.select());
+    without_domains(columns.as_slice(), query.domains())
+}
+
+// Adds the sets that begin with some columns and have so many more of others.
+fn add_sets(
+    list: &mut Vec<ColumnSet>,
+    first: &[Attr],
+    more: u8,
+    columns: &[Attr],
+) -> Result<(), AllocError>
+    requires { length first.now + more ≤ 3 }
+    ensures { OnOk result (list.new.items ≡ list.old.items ++ sets_with first.now more columns.now) }
+{
+    if more == 0 {
+        list.push(ColumnSet::of(first))?;
+        return Ok(());
+    }
+    match columns {
+        [] => Ok(()),
+        [column, others @ ..] => {
+            let longer = ColumnSet::with(first, *column);
+            add_sets(list, longer.columns(), more - 1, others)?;
+            add_sets(list, first, more, others)
+        }
+    }
+}
+
+// The sets of at most three columns, the smaller ones first. `AllocError` where their list finds no memory.
+#[tactic(auto, unfolding(crate::specs::Sets::sets_of))]
+fn sets_of(alloc: Global, columns: &[Attr]) -> Result<Vec<ColumnSet>, AllocError>
+    ensures { IfOk result (λ list. list.items ≡ sets_of columns.now) }
+{
+    let mut list = Vec::new(alloc);
+    add_sets(&mut list, &[], 0, columns)?;
+    add_sets(&mut list, &[], 1, columns)?;
+    add_sets(&mut list, &[], 2, columns)?;
+    add_sets(&mut list, &[], 3, columns)?;
+    Ok(list)
 }
 
 // The columns behind the first, where that is the column, and else all.
@@ -108,10 +202,8 @@ fn look_at(
     if !set_mends(alloc, query, kind, set)? {
         return Ok(());
     }
-    match found.push(ColumnSet::of(set.columns())) {
-        Ok(()) => Ok(()),
-        Err(_) => Err(AllocError),
-    }
+    found.push(ColumnSet::of(set.columns()))?;
+    Ok(())
 }
 
 // Adds the least sets among the first of some, so many as may be looked at; the smaller ones stand first.

@@ -1,25 +1,36 @@
 //! A query with a change.
-ghost use Rattle.std.specs.Prelude.{◌≡◌, ◌↔◌, ◌+◌, ◌*◌, ◌<◌, ◌≤◌, ◌++◌, ◌∷◌, [], length, take_while, true, All, AllPairs, IsTrue, IfOk};
-ghost use Rattle.sem_query.specs.Query.{attr_lt, with_new, IsDomain};
+ghost use Rattle.std.specs.Prelude.{◌≡◌, ◌↔◌, ◌+◌, ◌*◌, ◌<◌, ◌≤◌, ◌++◌, ◌∷◌, [], length, filter, take_while, true, All, AllPairs, IsTrue, IfOk};
+ghost use Rattle.sem_query.specs.Query.{attr_lt, is_soft, attrs_of, consts_of, with_new, AreNamed, IsDomain};
 ghost use Rattle.sem_query.specs.declared.atom.Op.TheVariants as op;
-ghost use Rattle.adv_mends.specs.Mended.{AreEnds, mended, domain_on, domain_lt, domains_with, compared, bounds_of, bounds_on, with_atoms, IsBound, Mends, IsWritten, IsWrittenAs};
+ghost use Rattle.adv_mends.specs.Mended.{AreEnds, mended, domain_on, domain_lt, domains_with, compared, bounds_of, bounds_on, with_atoms, IsBound, Fit, Mends, IsWritten, IsWrittenAs};
 ghost use Rattle.adv_mends.specs.declared.mend.Mend.TheVariants as changes;
 ghost use Rattle.adv_mends.specs.Ends.{StaysMet};
 ghost use Rattle.adv_mends.specs.Sublists.{IsSublist};
 ghost use Rattle.adv_mends.specs.Sets.{IsMendOf, open_columns};
 
 use crate::meeting::{meets, stands};
-use crate::mend::{Ends, Mend};
-use crate::naming::fit;
+use crate::mend::{Ends, Mend, copied};
 use arrayvec::ArrayVec;
-use sem_query::{Atom, Attr, Domain, Element, Op, Query, is_before};
+use sem_query::{Atom, Attr, Domain, Element, Op, Query, is_before, put_element};
 use std::alloc::{AllocError, Global};
 
 /// The most domains that a query may have.
 const MOST_DOMAINS: usize = 20;
 
+/// The most comparisons that a query may have.
+const MOST_COMPARISONS: usize = 16;
+
+/// The most of them that may be soft.
+const MOST_SOFT: usize = 8;
+
+/// The most columns that they may name.
+const MOST_ATTRS: usize = 12;
+
+/// The most integers that they may name.
+const MOST_CONSTS: usize = 6;
+
 // The integers between two ends, both included, as the domain of a column.
-fn domain_on(column: Attr, ends: Ends) -> Domain
+pub(crate) fn domain_on(column: Attr, ends: Ends) -> Domain
     ensures { result ≡ domain_on ends column }
 {
     Domain {
@@ -55,10 +66,7 @@ fn domains_with(domains: &[Domain], columns: &[Attr], ends: Ends) -> ArrayVec<Do
     requires { length domains.now + length columns.now ≤ 23 }
     ensures { result.items ≡ domains_with ends domains.now columns.now }
 {
-    let mut list = match ArrayVec::try_from(domains) {
-        Ok(list) => list,
-        Err(_) => unreachable!(),
-    };
+    let mut list = copied(domains);
     'columns: for column in columns {
         put(&mut list, *column, ends);
     }
@@ -101,10 +109,7 @@ fn atoms_with(atoms: &[Atom], more: &[Atom]) -> ArrayVec<Atom, 22>
     requires { length atoms.now + length more.now ≤ 22 }
     ensures { result.items ≡ atoms.now ++ more.now }
 {
-    let mut list = match ArrayVec::try_from(atoms) {
-        Ok(list) => list,
-        Err(_) => unreachable!(),
-    };
+    let mut list = copied(atoms);
     for atom in more {
         list.push(*atom);
     }
@@ -141,6 +146,49 @@ fn bounds_on(columns: &[Attr], ends: Ends) -> ArrayVec<Atom, 6>
         add_bounds(&mut list, *column, ends);
     }
     list
+}
+
+// The columns and the integers of some comparisons.
+fn named(atoms: &[Atom]) -> (ArrayVec<Attr, 32>, ArrayVec<i64, 32>)
+    requires few_attrs { length (attrs_of atoms.now) ≤ 32 }
+    requires few_consts { length (consts_of atoms.now) ≤ 32 }
+    ensures { AreNamed atoms.now result.0.items result.1.items }
+{
+    match atoms {
+        [] => (ArrayVec::new(), ArrayVec::new()),
+        [atom, others @ ..] => {
+            let (mut attrs, mut consts) = named(others);
+            put_element(atom.right, &mut attrs, &mut consts);
+            put_element(atom.left, &mut attrs, &mut consts);
+            (attrs, consts)
+        }
+    }
+}
+
+// How many comparisons are soft.
+fn soft_count(atoms: &[Atom]) -> usize
+    ensures { result ≡ length (filter (λ t. is_soft t.op) atoms.now) }
+{
+    atoms.iter().filter(|t| t.op.is_soft()).count()
+}
+
+// Whether comparisons name few enough columns and integers for a query, of at most 16 comparisons.
+fn names_few(atoms: &[Atom]) -> bool
+    requires { length atoms.now ≤ 16 }
+    ensures { IsTrue result ↔ (length (attrs_of atoms.now) ≤ 12) × (length (consts_of atoms.now) ≤ 6) }
+{
+    let (attrs, consts) = named(atoms);
+    attrs.len() <= MOST_ATTRS && consts.len() <= MOST_CONSTS
+}
+
+// Whether there are few enough comparisons for a query, and of the columns and the integers that they name.
+fn fit(atoms: &[Atom]) -> bool
+    ensures { IsTrue result ↔ Fit atoms.now }
+{
+    if atoms.len() > MOST_COMPARISONS || soft_count(atoms) > MOST_SOFT {
+        return false;
+    }
+    names_few(atoms)
 }
 
 // The query with more comparisons.

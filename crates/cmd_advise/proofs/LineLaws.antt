@@ -13,13 +13,12 @@ use Rattle.sem_query.specs.Query.{QueryValue}
 use Rattle.sql_catalog.specs.Streams.{Shape}
 use Rattle.adv_mends.specs.declared.advising.QueryAdvice.{QueryAdvice}
 use Rattle.adv_mends.specs.Advised.{IsAdvice}
-use Rattle.cmd_advise.specs.declared.advised.AdvisedQuery.{AdvisedQuery}
 use Rattle.adv_diagnosis.specs.Faults.{IsDiagnosis}
 use Rattle.cmd_advise.specs.declared.state.StandingLock.{StandingLock}
 use Rattle.cmd_advise.specs.Queries.{query_text}
 use Rattle.cmd_advise.specs.State.{State, free_pages, one_fault_more, one_query_more}
 use Rattle.cmd_advise.specs.Finding.{fine, fault, query, too_long, fits, ComesOf, FoundBehind, IsFound, advised, after, after_asks, shown, is_row_fault, told_text}
-use Rattle.cmd_advise.specs.LineSteps.{TookLine, TookFault, TookSilently, TookQuery, TookAsks, TookAdvised}
+use Rattle.cmd_advise.specs.LineSteps.{TookLine, TookFault, TookSilently, TookQuery, TookAsks}
 
 short-test : (n : ℕ) → n ≤ 1024 → nat_lt 1024 n ≡ false
 short-test n short = grind (arith, nat_tests)
@@ -89,8 +88,8 @@ took_asks line (asks.Stream name columns) s t held now short is took = silently 
 took_asks line (asks.Query name q shared) s t held now short is took = record {
   finding = query (advised s name q took.advice);
   is = fits short (Ok (asks.Query name q shared)) is (record { advice = took.advice; right = took.right; is = refl });
-  state = took.took.state;
-  text = took.took.text;
+  state = took.state;
+  text = took.text;
 }
 took_asks line asks.Explain s t held now short is took = silently line asks.Explain s t held now short is refl took
 took_asks line (asks.Drop name) s t held now short is took = silently line (asks.Drop name) s t held now short is refl took
@@ -109,25 +108,20 @@ pub asks_taken : {E : Type 0} (r : Result Unit E) (line : List ℕ) (a : Asks) (
 asks_taken (Ok done) line a s t held now short is took = took_asks line a s t held now short is took
 asks_taken (Err e) line a s t held now short is took = tt
 
--- a query that was advised on was taken
-pub query_taken : {E : Type 0} (r : Result Unit E) (name : List ℕ) (q : QueryValue) (shared : Bool) (advice : QueryAdvice) (number free : ℕ) (s t : State) (held now : List ℕ) → number ≡ s.lines + 1 → free ≡ free_pages s → IsAdvice shared q advice
-    → OnOk r (TookAdvised (record { number = number; name = name; query = q; advice = advice; free = free }) s t held now) → OnOk r (TookQuery name q shared s t held now)
-query_taken (Ok done) name q shared advice number free s t held now e f right took = record {
+-- what is said of a query that was advised on was put behind what is held, and the query was taken
+pub query_taken : {E : Type 0} (r : Result Unit E) (name : List ℕ) (q : QueryValue) (shared : Bool) (advice : QueryAdvice) (number free : ℕ) (s t : State) (streams : List Shape) (before after : MemSinkState)
+    → number ≡ s.lines + 1 → free ≡ free_pages s → streams ≡ s.streams → IsAdvice shared q advice
+    → Wrote (mem_sink_seen before) (mem_sink_seen after) (query_text streams (record { number = number; name = name; query = q; advice = advice; free = free }))
+    → OnOk r (t ≡ one_query_more s name advice.judgement) → OnOk r (TookQuery name q shared s t before.bytes after.bytes)
+query_taken (Ok done) name q shared advice number free s t streams before after e f h right wrote is = record {
   advice = advice;
   right = right;
-  took = subst (λ (n : ℕ). TookAdvised (record { number = n; name = name; query = q; advice = advice; free = free_pages s }) s t held now) e
-      (subst (λ (n : ℕ). TookAdvised (record { number = number; name = name; query = q; advice = advice; free = n }) s t held now) f took);
-}
-query_taken (Err e) name q shared advice number free s t held now p f right took = tt
-
--- what is said of a query was put behind what is held, and the query was taken
-pub advised_taken : {E : Type 0} (r : Result Unit E) (a : AdvisedQuery) (s t : State) (streams : List Shape) (before after : MemSinkState) → streams ≡ s.streams → Wrote (mem_sink_seen before) (mem_sink_seen after) (query_text streams a)
-    → OnOk r (t ≡ one_query_more s a.name a.advice.judgement) → OnOk r (TookAdvised a s t before.bytes after.bytes)
-advised_taken (Ok done) a s t streams before after e wrote is = record {
   state = is;
-  text = wrote.bytes ∙ ap (λ (l : List Shape). before.bytes ++ query_text l a) e;
+  text = wrote.bytes ∙ ap (λ (l : List Shape). before.bytes ++ query_text l (record { number = number; name = name; query = q; advice = advice; free = free })) h
+      ∙ ap (λ (n : ℕ). before.bytes ++ query_text s.streams (record { number = n; name = name; query = q; advice = advice; free = free })) e
+      ∙ ap (λ (n : ℕ). before.bytes ++ query_text s.streams (record { number = s.lines + 1; name = name; query = q; advice = advice; free = n })) f;
 }
-advised_taken (Err x) a s t streams before after e wrote is = tt
+query_taken (Err x) name q shared advice number free s t streams before after e f h right wrote is = tt
 
 -- what is said of a line at fault was put behind what is held, and the line was counted
 pub fault_told : (line : List ℕ) (wrong : Fault) (s t : State) (before after : MemSinkState) → Wrote (mem_sink_seen before) (mem_sink_seen after) (told_text s line wrong) → (row : Bool) → row ≡ is_row_fault line wrong → t ≡ one_fault_more s row

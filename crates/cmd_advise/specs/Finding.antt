@@ -19,7 +19,7 @@ use Rattle.adv_sentences.specs.Texts.{fault_text}
 use Rattle.adv_mends.specs.declared.advising.QueryAdvice.{QueryAdvice}
 use Rattle.adv_mends.specs.Advised.{IsAdvice}
 use Rattle.adv_templates.specs.Template.{filled}
-use Rattle.cmd_advise.specs.declared.advised.AdvisedQuery.{AdvisedQuery}
+use Rattle.cmd_advise.specs.declared.queries.AdvisedQuery.{AdvisedQuery}
 use Rattle.cmd_advise.specs.State.{State, free_pages, one_line_more, one_fault_more, one_stream_more, one_query_less, one_query_more, one_lock_more, one_lock_less}
 use Rattle.cmd_advise.specs.declared.faults.TheConstants.{MOST_ROWS, COUNTED}
 use Rattle.cmd_advise.specs.Queries.{query_text}

@@ -7,7 +7,6 @@ use Rattle.adv_diagnosis.specs.declared.fault.Fault.{Fault}
 use Rattle.adv_diagnosis.specs.declared.fault.Fault.TheVariants.{LineTooLong}
 use Rattle.adv_mends.specs.declared.advising.QueryAdvice.{QueryAdvice}
 use Rattle.adv_mends.specs.Advised.{IsAdvice}
-use Rattle.cmd_advise.specs.declared.advised.AdvisedQuery.{AdvisedQuery}
 use Rattle.cmd_advise.specs.State.{State, one_line_more, one_fault_more, one_stream_more, one_query_less, one_query_more, one_lock_more, one_lock_less}
 use Rattle.cmd_advise.specs.Queries.{query_text}
 use Rattle.cmd_advise.specs.Finding.{Finding, IsFinding, advised, after, is_row_fault, told_text, finding_text}
@@ -24,16 +23,12 @@ pub record TookFault (shown : List ℕ) (fault : Fault) (s t : State) (held now 
   pub state : t ≡ one_fault_more s (is_row_fault shown fault)
   pub text : now ≡ held ++ told_text s shown fault
 
--- a query that was advised on
-pub record TookAdvised (a : AdvisedQuery) (s t : State) (held now : List ℕ) : Type 0 where
-  pub state : t ≡ one_query_more s a.name a.advice.judgement
-  pub text : now ≡ held ++ query_text s.streams a
-
--- a query that is asked for
+-- a query that is asked for: it was advised on
 pub record TookQuery (name : List ℕ) (q : QueryValue) (shared : Bool) (s t : State) (held now : List ℕ) : Type 0 where
   pub advice : QueryAdvice
   pub right : IsAdvice shared q advice
-  pub took : TookAdvised (advised s name q advice) s t held now
+  pub state : t ≡ one_query_more s name advice.judgement
+  pub text : now ≡ held ++ query_text s.streams (advised s name q advice)
 
 -- nothing is said, and this is the state
 pub record TookSilently (wanted t : State) (held now : List ℕ) : Type 0 where

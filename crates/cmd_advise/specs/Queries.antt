@@ -10,7 +10,7 @@ use Rattle.sql_catalog.specs.Streams.{Shape}
 use Rattle.sql_parser.specs.Resolution.{column_named}
 use Rattle.adv_mends.specs.declared.judging.Judgement.{Judgement}
 use Rattle.adv_mends.specs.declared.judging.Judgement.TheVariants as judgement
-use Rattle.cmd_advise.specs.declared.advised.AdvisedQuery.{AdvisedQuery}
+use Rattle.cmd_advise.specs.declared.queries.AdvisedQuery.{AdvisedQuery}
 use Rattle.adv_lines.specs.Lines.{numbers_text, query_line, pool_line, above_line, violation_line}
 use Rattle.cmd_advise.specs.declared.queries.TheConstants.{NEVER, NO_ROW, MANY, NO_MORE}
 use Rattle.cmd_advise.specs.Changes.{same_text, changes_text, lifting_text, mends_text}

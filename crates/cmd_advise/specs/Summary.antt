@@ -1,7 +1,7 @@
 -- What all lines came to, in one line.
 use Rattle.std.specs.Prelude.{ℕ, ◌-◌, List, [], ◌∷◌, codes, decimal, nat_eq, if◌then◌else◌}
 use Rattle.adv_templates.specs.Template.{filled}
-use Rattle.cmd_advise.specs.declared.summary.TheConstants.{SUMMARY}
+use Rattle.cmd_advise.specs.declared.state.TheConstants.{SUMMARY}
 use Rattle.cmd_advise.specs.State.{State, free_pages}
 
 -- one word for one, and another for any other number

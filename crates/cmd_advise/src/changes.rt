@@ -83,16 +83,11 @@ fn write_comparisons<O: Sink>(out: &mut O, list: &[Cheaper], names: &Names<'_>) 
 }
 
 // Sets of columns, of which each mends the query.
-fn write_sets<O: Sink>(
-    out: &mut O,
-    remedy: Remedy,
-    sets: &[ColumnSet],
-    names: &Names<'_>,
-) -> Written
-    ensures { Writes result (O.seen out.old) (O.seen out.new) (flat_map (set_line remedy names.now.catalog.now names.now.from.now) sets.now) }
+fn write_sets<O: Sink>(out: &mut O, by: Remedy, sets: &[ColumnSet], names: &Names<'_>) -> Written
+    ensures { Writes result (O.seen out.old) (O.seen out.new) (flat_map (set_line by names.now.catalog.now names.now.from.now) sets.now) }
 {
     for set in sets {
-        write_set(out, remedy, set.columns(), names)?;
+        write_set(out, by, set.columns(), names)?;
     }
     Ok(())
 }
@@ -157,12 +152,8 @@ pub fn write_lifting<O: Sink>(out: &mut O, advice: &QueryAdvice, names: &Names<'
 fn write_all_sets<O: Sink>(out: &mut O, advice: &QueryAdvice, names: &Names<'_>) -> Written
     ensures { Writes result (O.seen out.old) (O.seen out.new) (change.sets_text names.now.catalog.now names.now.from.now advice.now) }
 {
-    write_sets(
-        out,
-        Remedy::Comparisons,
-        advice.bounds.found.as_slice(),
-        names,
-    )?;
+    let bounds = advice.bounds.found.as_slice();
+    write_sets(out, Remedy::Comparisons, bounds, names)?;
     write_sets(out, Remedy::Domains, advice.domains.found.as_slice(), names)?;
     write_if(out, has_sets(advice), ENDS)
 }

@@ -2,11 +2,10 @@
 //! a column in another unit, or a lock makes all rows wrong.
 ghost use Rattle.std.specs.Prelude.{◌≡◌, ◌+◌, ◌-◌, ◌^◌, ◌<◌};
 ghost use Rattle.io_streams.specs.Sink.{Writes};
-ghost use Rattle.adv_sentences.specs.Texts.{fault_text};
 ghost use Rattle.cmd_advise.specs.Finding as finding;
 
 use crate::state::Advising;
-use adv_diagnosis::{Fault, Known};
+use adv_diagnosis::Fault;
 use adv_sentences::write_fault;
 use adv_templates::{Filling, Written, write_filled};
 use io_streams::Sink;
@@ -35,41 +34,18 @@ pub fn is_row_fault(line: &[u8], fault: &Fault) -> bool
     }
 }
 
-// What is wrong with the next line.
-fn write_wrong<O: Sink>(state: &Advising, line: &[u8], fault: &Fault, out: &mut O) -> Written
-    requires { state.now.lines < 2 ^ 64 - 1 }
-    ensures { Writes result (O.seen out.old) (O.seen out.new) (fault_text (state.now.lines + 1) line.now fault.now state.now.streams state.now.live) }
-{
-    let known = Known {
-        catalog: state.catalog(),
-        live: state.live(),
-    };
-    write_fault(out, state.lines() + 1, line, fault, &known)
-}
-
-// What is said of the next line, which is a row that is wrong: behind the first ones by its number alone that such rows are counted, and then nothing.
+/// Writes what is said of the next line, which is at fault: what is wrong with it, but of a row behind the first ones by its number alone that such rows are
+/// counted, and then nothing.
 #[tactic(auto, unfolding(crate::specs::Finding::counted_text))]
-fn write_row<O: Sink>(state: &Advising, line: &[u8], fault: &Fault, out: &mut O) -> Written
-    requires { state.now.lines < 2 ^ 64 - 1 }
-    ensures { Writes result (O.seen out.old) (O.seen out.new) (finding.row_text state.now line.now fault.now) }
-{
-    if state.rows() < MOST_ROWS {
-        write_wrong(state, line, fault, out)
-    } else if state.rows() == MOST_ROWS {
-        write_filled(out, COUNTED, &[Filling::Number(state.lines() + 1)])
-    } else {
-        Ok(())
-    }
-}
-
-/// Writes what is said of the next line, which is at fault.
 pub fn tell_fault<O: Sink>(state: &Advising, line: &[u8], fault: &Fault, out: &mut O) -> Written
     requires { state.now.lines < 2 ^ 64 - 1 }
     ensures { Writes result (O.seen out.old) (O.seen out.new) (finding.told_text state.now line.now fault.now) }
 {
-    if is_row_fault(line, fault) {
-        write_row(state, line, fault, out)
+    if !is_row_fault(line, fault) || state.rows() < MOST_ROWS {
+        write_fault(out, state.lines() + 1, line, fault, &state.known())
+    } else if state.rows() == MOST_ROWS {
+        write_filled(out, COUNTED, &[Filling::Number(state.lines() + 1)])
     } else {
-        write_wrong(state, line, fault, out)
+        Ok(())
     }
 }

@@ -5,16 +5,13 @@
 //! before all lines are read.
 #![tactic(auto)]
 
-mod advised;
 mod changes;
 mod faults;
 mod parts;
 mod queries;
-mod reading;
 mod report;
 mod state;
-mod summary;
 mod taking;
 
-pub use advised::AdvisedQuery;
+pub use queries::AdvisedQuery;
 pub use report::advise_script;

@@ -1,5 +1,4 @@
 //! What single parts of a query keep and order, as text.
-ghost use Rattle.std.specs.Prelude.{◌≡◌};
 ghost use Rattle.std.specs.List.{flat_map};
 ghost use Rattle.io_streams.specs.Sink.{Writes};
 ghost use Rattle.cmd_advise.specs.Parts as said;
@@ -31,18 +30,12 @@ pub fn write_dearest<O: Sink>(out: &mut O, parts: &[DearPart], names: &Names<'_>
     Ok(())
 }
 
-// What stands between an element and the one before it.
-fn sign_text(equal: bool) -> &'static [u8]
-    ensures { result.now ≡ said.sign_text equal }
-{
-    if equal { b" = " } else { b" < " }
-}
-
-// An element behind the first, with the sign before it.
+// An element behind the first, with the sign between it and the one before it.
 fn write_step<O: Sink>(out: &mut O, step: &Step, names: &Names<'_>) -> Written
     ensures { Writes result (O.seen out.old) (O.seen out.new) (said.next_step names.now.catalog.now names.now.from.now step.now) }
 {
-    write_element(out, sign_text(step.equal), &step.element, names)
+    let sign: &[u8] = if step.equal { b" = " } else { b" < " };
+    write_element(out, sign, &step.element, names)
 }
 
 // The elements behind the first.
@@ -68,22 +61,15 @@ fn write_steps<O: Sink>(out: &mut O, steps: &[Step], names: &Names<'_>) -> Writt
     }
 }
 
-// A chain of several elements.
-#[tactic(auto, using(crate::proofs::Texts::writes_behind, crate::proofs::Texts::broke_off, crate::proofs::Texts::stopped))]
-fn write_order<O: Sink>(out: &mut O, part: u32, chain: &Chain, names: &Names<'_>) -> Written
-    ensures { Writes result (O.seen out.old) (O.seen out.new) (said.order_line names.now.catalog.now names.now.from.now part chain.now) }
-{
-    write_part(out, part)?;
-    write_steps(out, chain.steps.as_slice(), names)?;
-    write_all(out, b"\n")
-}
-
 // A chain of a part. One element alone is in no order, and nothing is said of it.
+#[tactic(auto, using(crate::proofs::Texts::writes_behind, crate::proofs::Texts::broke_off, crate::proofs::Texts::stopped))]
 fn write_chain<O: Sink>(out: &mut O, part: u32, chain: &Chain, names: &Names<'_>) -> Written
     ensures { Writes result (O.seen out.old) (O.seen out.new) (said.chain_line names.now.catalog.now names.now.from.now part chain.now) }
 {
     if 1 < chain.steps.len() {
-        write_order(out, part, chain, names)
+        write_part(out, part)?;
+        write_steps(out, chain.steps.as_slice(), names)?;
+        write_all(out, b"\n")
     } else {
         Ok(())
     }

@@ -1,7 +1,6 @@
 //! The command that advises on a script.
-ghost use Rattle.std.specs.Prelude.{◌≡◌, ◌≤◌, ◌++◌, []};
+ghost use Rattle.std.specs.Prelude.{◌≤◌, ◌++◌};
 ghost use Rattle.io_streams.specs.Sink.{Writes};
-ghost use Rattle.io_line_reader.specs.Reading.{fresh};
 ghost use Rattle.sql_script.specs.Commands.{CommandEnds};
 ghost use Rattle.sql_script.specs.Ending.{EndsWith};
 ghost use Rattle.cmd_advise.specs.State.{status_for};
@@ -9,13 +8,12 @@ ghost use Rattle.cmd_advise.specs.Summary.{summary_text};
 ghost use Rattle.cmd_advise.specs.Advising.{Advises};
 ghost use Rattle.cmd_advise.specs.Reading.{ReadsTold};
 
-use crate::reading::read_all;
 use crate::state::Advising;
-use crate::summary::write_summary;
+use crate::taking::take_given;
 use adv_templates::Written;
 use io_line_reader::LineReader;
 use io_streams::{MemSink, Sink, Source, Status, write_all};
-use sql_script::{ScriptEnd, end_early};
+use sql_script::{NextGiven, ScriptEnd, end_early, next_given};
 use std::alloc::Global;
 
 /// What all lines have made, and what is said of them.
@@ -25,25 +23,32 @@ pub struct Report {
     pub held: MemSink,
 }
 
-// Takes all lines of a source.
-fn read_told<I: Source>(
-    alloc: Global,
-    reader: &mut LineReader,
-    input: &mut I,
-) -> Result<Report, ScriptEnd>
-    requires { reader.old ≡ fresh }
+// Takes all lines of a source, one after another; what is said of them is held.
+fn read_told<I: Source>(alloc: Global, input: &mut I) -> Result<Report, ScriptEnd>
     ensures reads { ReadsTold result (I.seen input.old) (I.seen input.new) }
     ensures later { (I.seen input.old).faults ≤ (I.seen input.new).faults }
 {
+    let Ok(mut reader) = LineReader::new(alloc) else {
+        return Err(ScriptEnd::Memory);
+    };
     let Ok(mut state) = Advising::new(alloc) else {
         return Err(ScriptEnd::Memory);
     };
     let Ok(mut held) = MemSink::new(alloc, usize::MAX, &[]) else {
         return Err(ScriptEnd::Memory);
     };
-    match read_all(alloc, reader, &mut state, &mut held, input) {
-        Ok(()) => Ok(Report { state, held }),
-        Err(end) => Err(end),
+    'reading: loop {
+        match next_given(&mut reader, input) {
+            NextGiven::Given { long } => {
+                match take_given(alloc, long, &mut state, reader.line(), &mut held) {
+                    Ok(()) => {}
+                    Err(_) => return Err(ScriptEnd::Memory),
+                }
+            }
+            NextGiven::End => return Ok(Report { state, held }),
+            NextGiven::ReadFault => return Err(ScriptEnd::ReadFault),
+            NextGiven::ByteLimit => return Err(ScriptEnd::ByteLimit),
+        }
     }
 }
 
@@ -53,7 +58,7 @@ fn write_told<O: Sink>(told: &Report, output: &mut O) -> Written
     ensures { Writes result (O.seen output.old) (O.seen output.new) (told.now.held.bytes ++ summary_text told.now.state) }
 {
     write_all(output, told.held.bytes())?;
-    write_summary(output, &told.state)
+    told.state.write_summary(output)
 }
 
 // Writes the whole text, and gives the status.
@@ -79,10 +84,7 @@ pub fn advise_script<I: Source, O: Sink>(alloc: Global, input: &mut I, output: &
     ensures input_later { (I.seen input.old).faults ≤ (I.seen input.new).faults }
     ensures output_later { (O.seen output.old).faults ≤ (O.seen output.new).faults }
 {
-    let Ok(mut reader) = LineReader::new(alloc) else {
-        return Status::Memory;
-    };
-    match read_told(alloc, &mut reader, input) {
+    match read_told(alloc, input) {
         Ok(told) => end_told(&told, output),
         Err(end) => end_early(end, output),
     }

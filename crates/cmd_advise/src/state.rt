@@ -1,19 +1,29 @@
 //! What the lines of a script have made.
-ghost use Rattle.std.specs.Prelude.{◌≡◌, ◌+◌, ◌<◌, ◌≤◌, ◌-◌, ◌^◌, ◌++◌, ◌∷◌, [], IfOk, OnOk, length, sum};
+ghost use Rattle.std.specs.Prelude.{◌≡◌, ◌+◌, ◌<◌, ◌≤◌, ◌-◌, ◌^◌, if◌then◌else◌, nat_eq, IfOk, OnOk, length, sum};
 ghost use Rattle.std.specs.List.{All, position};
 ghost use Rattle.std.specs.Str.{bytes_eq};
+ghost use Rattle.io_streams.specs.Sink.{Writes};
+ghost use Rattle.sem_query.specs.Numbers.{page_count};
 ghost use Rattle.sql_catalog.specs.Streams.{HasEnds};
-ghost use Rattle.cmd_advise.specs.State.{empty, free_pages, status_for, one_line_more, one_fault_more, one_stream_more, one_query_less, one_lock_more, one_lock_less};
+ghost use Rattle.cmd_advise.specs.State as state;
+ghost use Rattle.cmd_advise.specs.State.{empty, free_pages, status_for, one_line_more, one_fault_more, one_stream_more, one_query_less, one_query_more};
+ghost use Rattle.cmd_advise.specs.Summary.{summary_text};
 
+use adv_diagnosis::Known;
+use adv_mends::Judgement;
+use adv_templates::{Filling, Written, write_filled};
 use arrayvec::ArrayVec;
-use io_streams::Status;
+use io_streams::{Sink, Status};
 use sql_catalog::{Catalog, ColumnDef};
 use sql_text::Name;
 use std::alloc::{AllocError, Global};
 use std::marker::Model;
 
 /// The pages of the pool.
-pub const PAGES: u32 = 16_384;
+const PAGES: u32 = 16_384;
+
+/// The line of what all lines came to.
+const SUMMARY: &[u8] = b"_ _ read, _ _ accepted (_ of 16384 pages), _ refused, _ _ at fault\n";
 
 /// A lock.
 #[derive(Drop)]
@@ -60,6 +70,41 @@ fn place_of(live: &[Name], name: &Name) -> Option<usize>
     live.iter().position(|other| *other == *name)
 }
 
+// The word for one, or that for any other number.
+fn word_for(count: u64, one: &'static [u8], more: &'static [u8]) -> &'static [u8]
+    ensures { result.now ≡ (if nat_eq count 1 then one.now else more.now) }
+{
+    if count == 1 { one } else { more }
+}
+
+/// Returns how many pages so many cells take.
+pub fn page_count(cells: u32) -> u32
+    ensures { result ≡ page_count cells }
+{
+    cells.div_ceil(64)
+}
+
+// The pages of a query that comes to this: a filter has none.
+fn pages_for(judgement: Judgement) -> u32
+    ensures { result ≡ state.pages_for judgement }
+{
+    match judgement {
+        Judgement::Accepted(numbers) => page_count(numbers.cells),
+        _ => 0,
+    }
+}
+
+// Whether a query that comes to this is accepted where so many pages are free.
+fn is_accepted(free: u32, judgement: Judgement) -> bool
+    ensures { result ≡ state.is_accepted free judgement }
+{
+    match judgement {
+        Judgement::Filter => true,
+        Judgement::Accepted(numbers) => free >= page_count(numbers.cells),
+        _ => false,
+    }
+}
+
 impl Advising {
     /// Returns what no line has made.
     pub fn new(alloc: Global) -> Result<Advising, AllocError>
@@ -79,18 +124,15 @@ impl Advising {
         })
     }
 
-    /// Returns the streams.
-    pub fn catalog(&self) -> &Catalog
-        ensures { result.now ≡ self.now.streams }
+    /// Returns the streams, and the names of the live queries.
+    pub fn known(&self) -> Known<'_>
+        ensures streams { result.catalog.now ≡ self.now.streams }
+        ensures live { result.live.now ≡ self.now.live }
     {
-        &self.catalog
-    }
-
-    /// Returns the names of the live queries.
-    pub fn live(&self) -> &[Name]
-        ensures { result.now ≡ self.now.live }
-    {
-        self.live.as_slice()
+        Known {
+            catalog: &self.catalog,
+            live: self.live.as_slice(),
+        }
     }
 
     /// Returns how many lines were read.
@@ -98,27 +140,6 @@ impl Advising {
         ensures { result ≡ self.now.lines }
     {
         self.lines
-    }
-
-    /// Returns how many queries were accepted.
-    pub fn accepted(&self) -> u64
-        ensures { result ≡ self.now.accepted }
-    {
-        self.accepted
-    }
-
-    /// Returns how many queries were refused.
-    pub fn refused(&self) -> u64
-        ensures { result ≡ self.now.refused }
-    {
-        self.refused
-    }
-
-    /// Returns how many lines are at fault.
-    pub fn at_fault(&self) -> u64
-        ensures { result ≡ self.now.at_fault }
-    {
-        self.at_fault
     }
 
     /// Returns how many rows are at fault.
@@ -147,12 +168,11 @@ impl Advising {
     pub fn status(&self) -> Status
         ensures { result ≡ status_for self.now }
     {
-        if self.refused == 0 {
-            if self.at_fault == 0 {
-                return Status::Done;
-            }
+        if self.refused == 0 && self.at_fault == 0 {
+            Status::Done
+        } else {
+            Status::Invalid
         }
-        Status::Invalid
     }
 
     /// Counts a line.
@@ -163,25 +183,12 @@ impl Advising {
         self.lines += 1;
     }
 
-    /// Lets a lock stand with the number and the streams of the next line, and counts that line.
-    pub fn set_lock(&mut self, key: Option<i64>, streams: ArrayVec<Name, 16>)
+    /// Lets this lock stand, or none, and counts the line.
+    pub fn set_lock(&mut self, lock: Option<StandingLock>)
         requires { self.old.lines < 2 ^ 64 - 1 }
-        ensures { self.new ≡ one_lock_more self.old key streams }
+        ensures { self.new ≡ record self.old { lines = self.old.lines + 1; lock = lock } }
     {
-        self.lines += 1;
-        self.lock = Some(StandingLock {
-            line: self.lines,
-            key,
-            streams,
-        });
-    }
-
-    /// Lets no lock stand any more, and counts the line.
-    pub fn unlock(&mut self)
-        requires { self.old.lines < 2 ^ 64 - 1 }
-        ensures { self.new ≡ one_lock_less self.old }
-    {
-        self.lock = None;
+        self.lock = lock;
         self.lines += 1;
     }
 
@@ -197,15 +204,6 @@ impl Advising {
         }
     }
 
-    /// Counts a line whose query is refused.
-    pub fn count_refused(&mut self)
-        requires { self.old.lines < 2 ^ 64 - 1 }
-        ensures { self.new ≡ record self.old { lines = self.old.lines + 1; refused = self.old.refused + 1 } }
-    {
-        self.lines += 1;
-        self.refused += 1;
-    }
-
     /// Adds a stream with 1 to 8 columns behind the others, where it can be added, and counts its line.
     pub fn add_stream(&mut self, name: Name, columns: &[ColumnDef])
         requires lines { self.old.lines < 2 ^ 64 - 1 }
@@ -219,12 +217,17 @@ impl Advising {
         self.lines += 1;
     }
 
-    /// Takes a query among the live ones, behind the others, with pages that are free, and counts its line.
-    pub fn add_query(&mut self, name: Name, pages: u32) -> Result<(), AllocError>
-        requires lines { self.old.lines < 2 ^ 64 - 1 }
-        requires free { pages ≤ free_pages self.old }
-        ensures { OnOk result (self.new ≡ record self.old { live = self.old.live ++ name ∷ []; pages = self.old.pages ++ pages ∷ []; lines = self.old.lines + 1; accepted = self.old.accepted + 1 }) }
+    /// Takes a query that comes to this among the live ones, behind the others, where it is accepted, and counts its line.
+    pub fn add_query(&mut self, name: Name, judgement: Judgement) -> Result<(), AllocError>
+        requires { self.old.lines < 2 ^ 64 - 1 }
+        ensures { OnOk result (self.new ≡ one_query_more self.old name judgement) }
     {
+        if !is_accepted(self.free(), judgement) {
+            self.lines += 1;
+            self.refused += 1;
+            return Ok(());
+        }
+        let pages = pages_for(judgement);
         if self.live.push(name).is_err() {
             return Err(AllocError);
         }
@@ -249,5 +252,24 @@ impl Advising {
             self.taken -= self.pages.remove(place);
         }
         self.lines += 1;
+    }
+
+    /// Writes what all lines came to, in one line: how many were read, how many queries were accepted and what pages they take, how many were refused, and
+    /// how many lines are at fault.
+    #[tactic(auto, unfolding(crate::specs::Summary::summary_text))]
+    pub fn write_summary<O: Sink>(&self, out: &mut O) -> Written
+        ensures { Writes result (O.seen out.old) (O.seen out.new) (summary_text self.now) }
+    {
+        let fillings = [
+            Filling::Number(self.lines),
+            Filling::Fixed(word_for(self.lines, b"line", b"lines")),
+            Filling::Number(self.accepted),
+            Filling::Fixed(word_for(self.accepted, b"query", b"queries")),
+            Filling::Count(PAGES - self.free()),
+            Filling::Number(self.refused),
+            Filling::Number(self.at_fault),
+            Filling::Fixed(word_for(self.at_fault, b"line", b"lines")),
+        ];
+        write_filled(out, SUMMARY, &fillings)
     }
 }

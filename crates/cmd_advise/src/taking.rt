@@ -1,56 +1,18 @@
 //! One line of a script.
-ghost use Rattle.std.specs.Prelude.{◌≡◌, ◌+◌, ◌-◌, ◌^◌, ◌<◌, ◌≤◌, Some, [], IfOk, OnOk, length};
-ghost use Rattle.adv_diagnosis.specs.declared.fault.Fault.TheVariants as faults;
+ghost use Rattle.std.specs.Prelude.{◌≡◌, ◌-◌, ◌^◌, ◌<◌, ◌≤◌, false, IfOk, OnOk, length};
 ghost use Rattle.adv_diagnosis.specs.Faults.{IsReady};
-ghost use Rattle.cmd_advise.specs.Finding.{IsFound, FoundBehind};
-ghost use Rattle.cmd_advise.specs.State.{is_accepted, pages_for, one_query_more};
-ghost use Rattle.cmd_advise.specs.LineSteps.{TookLine, TookAsks, TookQuery, TookAdvised, TookFault};
+ghost use Rattle.cmd_advise.specs.Finding.{IsFound};
+ghost use Rattle.cmd_advise.specs.LineSteps.{TookGiven, TookAsks, TookQuery, TookFault};
 
-use crate::advised::AdvisedQuery;
 use crate::faults::{is_row_fault, tell_fault};
-use crate::queries::{page_count, write_query};
+use crate::queries::{AdvisedQuery, write_query};
 use crate::state::{Advising, StandingLock};
-use adv_diagnosis::{Asks, Fault, Known, Lock, diagnose, diagnose_locked};
-use adv_mends::{Judgement, advise};
+use adv_diagnosis::{Asks, Fault, Lock, diagnose, diagnose_locked};
+use adv_mends::advise;
 use io_streams::MemSink;
 use sem_query::Query;
 use sql_text::Name;
 use std::alloc::{AllocError, Global};
-
-// The pages of a query that comes to this: a filter has none.
-fn pages_for(judgement: Judgement) -> u32
-    ensures { result ≡ pages_for judgement }
-{
-    match judgement {
-        Judgement::Accepted(numbers) => page_count(numbers.cells),
-        _ => 0,
-    }
-}
-
-// Whether a query that comes to this is accepted where so many pages are free.
-fn is_accepted(free: u32, judgement: Judgement) -> bool
-    ensures value { result ≡ is_accepted free judgement }
-{
-    match judgement {
-        Judgement::Filter => true,
-        Judgement::Accepted(numbers) => free >= page_count(numbers.cells),
-        _ => false,
-    }
-}
-
-// What is found by looking at a line under a lock.
-fn look_locked(standing: &StandingLock, line: &[u8], known: &Known<'_>) -> Result<Asks, Fault>
-    requires { length line.now ≤ 1024 }
-    ensures found { FoundBehind known.now.catalog.now known.now.live.now (Some standing.now) line.now result }
-    ensures ready { IfOk result (IsReady known.now.catalog.now) }
-{
-    let lock = Lock {
-        line: standing.line,
-        key: standing.key,
-        streams: standing.streams.as_slice(),
-    };
-    diagnose_locked(line, known, &lock)
-}
 
 // What is found by looking at a line, as a session with the lock that stands reads it.
 #[tactic(auto, using(crate::proofs::LineLaws::found_locked, crate::proofs::LineLaws::found_open))]
@@ -59,12 +21,16 @@ fn look_at(state: &Advising, line: &[u8]) -> Result<Asks, Fault>
     ensures found { IsFound state.now line.now result }
     ensures ready { IfOk result (IsReady state.now.streams) }
 {
-    let known = Known {
-        catalog: state.catalog(),
-        live: state.live(),
-    };
+    let known = state.known();
     match state.lock() {
-        Some(standing) => look_locked(standing, line, &known),
+        Some(standing) => {
+            let lock = Lock {
+                line: standing.line,
+                key: standing.key,
+                streams: standing.streams.as_slice(),
+            };
+            diagnose_locked(line, &known, &lock)
+        }
         None => diagnose(line, &known),
     }
 }
@@ -80,45 +46,14 @@ fn take_fault(
     requires { state.old.lines < 2 ^ 64 - 1 }
     ensures { OnOk result (TookFault line.now fault.now state.old state.new held.old.bytes held.new.bytes) }
 {
-    match tell_fault(state, line, fault, held) {
-        Ok(()) => {
-            state.count_fault(is_row_fault(line, fault));
-            Ok(())
-        }
-        Err(_) => Err(AllocError),
+    if tell_fault(state, line, fault, held).is_err() {
+        return Err(AllocError);
     }
+    state.count_fault(is_row_fault(line, fault));
+    Ok(())
 }
 
-// Takes a query that was advised on among the live ones, if it is accepted, and counts its line.
-fn take_judged(state: &mut Advising, name: Name, judgement: Judgement) -> Result<(), AllocError>
-    requires { state.old.lines < 2 ^ 64 - 1 }
-    ensures { OnOk result (state.new ≡ one_query_more state.old name judgement) }
-{
-    if is_accepted(state.free(), judgement) {
-        state.add_query(name, pages_for(judgement))
-    } else {
-        state.count_refused();
-        Ok(())
-    }
-}
-
-// Takes a query that was advised on: what is said of it is put behind what is held.
-#[tactic(auto, using(crate::proofs::LineLaws::advised_taken))]
-fn take_advised(
-    state: &mut Advising,
-    advised: &AdvisedQuery,
-    held: &mut MemSink,
-) -> Result<(), AllocError>
-    requires { state.old.lines < 2 ^ 64 - 1 }
-    ensures { OnOk result (TookAdvised advised.now state.old state.new held.old.bytes held.new.bytes) }
-{
-    match write_query(held, advised, state.catalog()) {
-        Ok(()) => take_judged(state, advised.name, advised.advice.judgement),
-        Err(_) => Err(AllocError),
-    }
-}
-
-// Takes a line that asks for a query.
+// Takes a line that asks for a query: it is advised on, and what is said of it is put behind what is held.
 #[tactic(auto, using(crate::proofs::LineLaws::query_taken))]
 fn take_query(
     alloc: Global,
@@ -139,7 +74,10 @@ fn take_query(
         advice,
         free: state.free(),
     };
-    take_advised(state, &advised, held)
+    match write_query(held, &advised, state.known().catalog) {
+        Ok(()) => state.add_query(advised.name, advised.advice.judgement),
+        Err(_) => Err(AllocError),
+    }
 }
 
 // Takes a line that asks for this.
@@ -158,53 +96,38 @@ fn take_asks(
             name,
             query,
             shared,
-        } => take_query(alloc, state, name, query, shared, held),
-        Asks::Stream { name, columns } => {
-            state.add_stream(name, columns.as_slice());
-            Ok(())
-        }
-        Asks::Drop(name) => {
-            state.drop_query(&name);
-            Ok(())
-        }
+        } => return take_query(alloc, state, name, query, shared, held),
+        Asks::Stream { name, columns } => state.add_stream(name, columns.as_slice()),
+        Asks::Drop(name) => state.drop_query(&name),
         Asks::Lock { key, streams } => {
-            state.set_lock(key, streams);
-            Ok(())
+            let line = state.lines() + 1;
+            state.set_lock(Some(StandingLock { line, key, streams }));
         }
-        Asks::Unlock => {
-            state.unlock();
-            Ok(())
-        }
-        Asks::Nothing | Asks::Row | Asks::Explain | Asks::Other => {
-            state.count_line();
-            Ok(())
-        }
+        Asks::Unlock => state.set_lock(None),
+        Asks::Nothing | Asks::Row | Asks::Explain | Asks::Other => state.count_line(),
     }
+    Ok(())
 }
 
-/// Takes the next line of a script: the streams and the live queries are those behind it, and what is said of it is put behind what is held. `AllocError`
-/// where no memory is found.
+/// Takes the next line of a script, of which nothing is shown where it is too long: the streams and the live queries are those behind it, and what is said of it
+/// is put behind what is held. `AllocError` where no memory is found.
 #[tactic(auto, using(crate::proofs::LineLaws::asks_taken, crate::proofs::LineLaws::fault_taken))]
-pub fn take_line(
+pub fn take_given(
     alloc: Global,
+    long: bool,
     state: &mut Advising,
     line: &[u8],
     held: &mut MemSink,
 ) -> Result<(), AllocError>
     requires lines { state.old.lines < 2 ^ 64 - 1 }
-    requires short { length line.now ≤ 1024 }
-    ensures { OnOk result (TookLine line.now state.old state.new held.old.bytes held.new.bytes) }
+    requires short { long ≡ false → length line.now ≤ 1024 }
+    ensures { OnOk result (TookGiven long line.now state.old state.new held.old.bytes held.new.bytes) }
 {
+    if long {
+        return take_fault(state, b"", &Fault::LineTooLong, held);
+    }
     match look_at(state, line) {
         Ok(asks) => take_asks(alloc, state, asks, held),
         Err(fault) => take_fault(state, line, &fault, held),
     }
-}
-
-/// Takes a line of more than 1,024 bytes, of which nothing is shown. `AllocError` where no memory is found.
-pub fn take_long(state: &mut Advising, held: &mut MemSink) -> Result<(), AllocError>
-    requires { state.old.lines < 2 ^ 64 - 1 }
-    ensures { OnOk result (TookFault [] faults.LineTooLong state.old state.new held.old.bytes held.new.bytes) }
-{
-    take_fault(state, b"", &Fault::LineTooLong, held)
 }

@@ -1,5 +1,5 @@
 -- A run over the input behind the lines of a file.
-use Rattle.std.proofs.Common.{◌≡◌, ℕ, ◌≤◌, Bool, true, false, inl, inr, List, [], ◌∷◌, ◌++◌, refl, sym, ap, ◌∙◌, subst, append_assoc, arith, None, Some, IfSome, IsTrue}
+use Rattle.std.proofs.Common.{◌≡◌, ℕ, ◌≤◌, Bool, true, false, inl, inr, List, ◌++◌, refl, sym, ap, ◌∙◌, subst, append_assoc, arith, None, Some, IfSome, IsTrue}
 use Rattle.std.specs.declared.option.Option.{Option}
 use Rattle.std.specs.Io.KnownBytes.{Appends}
 use Rattle.std.proofs.KnownBytes.{Appends-trans}
@@ -21,7 +21,7 @@ use Rattle.cmd_session.proofs.LineRuns.{after-append, replies-append, AreAnswers
 use Rattle.cmd_each.specs.OneLine.{joined}
 use Rattle.cmd_each.specs.Run.{WroteFormed}
 use Rattle.cmd_each.proofs.FormedReplies.{formed-append}
-use Rattle.cmd_dispatch.specs.Behind.{whole, reply_as, replies_as, StreamsAs, WroteAs, AtLineBehind, StopsInReply, StopsBeforeCreate, StopsUncounted, StreamsBehind, EndsBehindFile}
+use Rattle.cmd_dispatch.specs.Behind.{whole, reply_as, replies_as, StreamsAs, WroteAs, AtLineBehind, StopsInReply, StopsBeforeCreate, StopsUncounted, StreamsBehind}
 use Rattle.cmd_dispatch.specs.Phases.{RanAs, AnsweredAs, AnsweredAll, FileRan}
 use Rattle.cmd_dispatch.proofs.WholeLines.{lines-whole, lines-made}
 

@@ -1,5 +1,5 @@
 -- The counts of faults of files.
-use Rattle.std.proofs.Common.{ℕ, ◌<◌, ◌≤◌, List, [], ◌∷◌, map, length, get_or, slice_set, arith}
+use Rattle.std.proofs.Common.{◌<◌, ◌≤◌, List, [], ◌∷◌, map, length, get_or, slice_set, arith}
 use Rattle.io_streams.specs.Source.{SourceState}
 use Rattle.cmd_dispatch.specs.Files.{NoneFell}
 use Rattle.cmd_dispatch.proofs.Sessions.{same-fell}

@@ -1,8 +1,7 @@
 -- Words of a load.
-use Rattle.std.proofs.Common.{◌≡◌, ℕ, ◌<◌, ◌≤◌, ◌^◌, List, [], ◌∷◌, length, get_or, sym, ◌∙◌, subst, Some, None, arith, codes, MatchOption, IfSome, decimal, String}
+use Rattle.std.proofs.Common.{◌≡◌, ℕ, ◌<◌, ◌≤◌, List, [], ◌∷◌, length, get_or, sym, ◌∙◌, subst, Some, None, arith, codes, MatchOption, IfSome, String}
 use Rattle.std.specs.declared.alloc.Global.{Global}
 use Rattle.std.specs.declared.option.Option.{Option}
-use Rattle.std.proofs.lemmas.Fmt.{decimal_injective}
 use Rattle.cmd_dispatch.specs.LoadWords.{IsLoadSize, AreLoadTexts, AreLoad}
 
 pub two_words : {A : Type 0} (ws : List A) (v w : A) → 2 ≤ length ws → length ws < 3 → v ≡ get_or ws 0 v → w ≡ get_or ws 1 w → ws ≡ v ∷ w ∷ []
@@ -22,10 +21,6 @@ sized_words texts number None e none = λ n are. refuted n are
         let same : are.number ≡ number = cc in
         none n (subst (λ t. IsLoadSize t n) same are.size)
 sized_words texts number (Some n) e is = record { number = number; words = e; size = is }
-
--- a text is the shortest form of one number
-pub one_size : (text : List ℕ) (number n : ℕ) → number < 2 ^ 64 → text ≡ decimal number → IsLoadSize text n → number ≡ n
-one_size text number n small e is = decimal_injective number n small (omega (arith, is.few)) (sym e ∙ is.digits)
 
 -- the number of rows is one that a load may have
 pub within_sizes : (words : List (String Global)) (r : Option ℕ) → MatchOption r ((n : ℕ) → AreLoad words n → ⊥) (λ n. AreLoad words n) → IfSome r (λ n. (0 < n) × (n ≤ 100000))

@@ -1,5 +1,5 @@
 -- Words that ask for a family.
-use Rattle.std.proofs.Common.{◌≡◌, ℕ, ◌<◌, ◌≤◌, ◌^◌, List, [], ◌∷◌, ◌++◌, length, get_or, sym, ap, ◌∙◌, subst, Some, None, arith, codes, MatchOption, IfSome, decimal, String}
+use Rattle.std.proofs.Common.{◌≡◌, ℕ, ◌<◌, ◌≤◌, List, [], ◌∷◌, ◌++◌, length, get_or, sym, ap, ◌∙◌, subst, Some, None, arith, codes, MatchOption, IfSome, String}
 use Rattle.std.specs.declared.alloc.Global.{Global}
 use Rattle.std.specs.declared.option.Option.{Option}
 use Rattle.std.proofs.lemmas.Fmt.{decimal_injective}
@@ -32,10 +32,6 @@ family_words texts number families None e none = λ form are. none form.rows (su
     same All All m h = cc
     same FirstTwo All m h = absurd (let l = ap length h in omega (arith, l))
     same All FirstTwo m h = absurd (let l = ap length h in omega (arith, l))
-
--- a text is the shortest form of one number
-pub one_family_size : (text : List ℕ) (number n : ℕ) → number < 2 ^ 64 → text ≡ decimal number → IsFamilySize text n → number ≡ n
-one_family_size text number n small e is = decimal_injective number n small (omega (arith, is.few)) (sym e ∙ is.digits)
 
 -- the number of rows is one that a family may have
 pub within_family_sizes : (words : List (String Global)) (r : Option LowerForm) → MatchOption r ((form : LowerForm) → AreLower words form → ⊥) (λ form. AreLower words form)

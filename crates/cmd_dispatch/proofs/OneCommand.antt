@@ -1,5 +1,5 @@
 -- Words ask for one thing at most.
-use Rattle.std.proofs.Common.{◌≡◌, ℕ, Bool, true, false, cond, List, String, [], ◌∷◌, map, codes, refl, sym, ap, ◌∙◌, arith, ◌⊎◌, inl, inr, subst, Some, None}
+use Rattle.std.proofs.Common.{◌≡◌, ℕ, Bool, true, false, cond, List, String, [], ◌∷◌, map, codes, refl, sym, ap, ◌∙◌, arith, inl, inr, subst, Some, None}
 use Rattle.std.specs.declared.alloc.Global.{Global}
 use Rattle.std.specs.declared.option.Option.{Option}
 use Rattle.std.specs.String.{string_bytes}
@@ -11,7 +11,6 @@ use Rattle.cmd_dispatch.specs.declared.command.Command.TheVariants.{Run, Load, L
 use Rattle.cmd_dispatch.specs.Words.{AreLast, AreOptions, AreRunTexts, rows_or_most, nothing, named, limited, by_line, over}
 use Rattle.cmd_dispatch.specs.LoadWords.{AreLoadTexts}
 use Rattle.cmd_dispatch.specs.CertificateWords.{AreAdviseTexts, AreSplitTexts, AreAdviseSplitTexts}
-use Rattle.cmd_dispatch.specs.HelpWords.{AreHelp, AreVersion}
 use Rattle.cmd_dispatch.specs.Commands.{Asks}
 use Rattle.cmd_dispatch.specs.Laws.{AskForOne}
 use Rattle.cmd_dispatch.proofs.LowerForms.{one_lower}

@@ -1,14 +1,17 @@
 -- Words by what they begin with.
-use Rattle.std.proofs.Common.{◌≡◌, ℕ, ◌-◌, ◌<◌, ◌≤◌, ◌^◌, Bool, true, false, List, [], ◌∷◌, length, take, drop, get_or, sym, refl, ap, ◌∙◌, subst, Some, None, arith, codes, MatchOption, IfSome, map, String}
-use Rattle.std.specs.String.{string_bytes}
+use Rattle.std.proofs.Common.{◌≡◌, ℕ, ◌-◌, ◌<◌, ◌≤◌, ◌^◌, Bool, true, false, List, [], ◌∷◌, length, take, drop, get_or, sym, refl, ap, ◌∙◌, subst, Some, None, arith, codes, MatchOption, IfSome, map, decimal, String}
 use Rattle.std.specs.declared.alloc.Global.{Global}
 use Rattle.std.specs.declared.option.Option.{Option}
 use Rattle.std.proofs.lemmas.List.{take_rest}
 use Rattle.std.proofs.lemmas.Fmt.{decimal_injective}
-use Rattle.cmd_dispatch.specs.Words.{IsFileName, AreLast, AreOptions, AreRunTexts, AreRun, rows_or_most, nothing, named, limited, by_line, over}
+use Rattle.cmd_dispatch.specs.Words.{IsFileName, IsSize, AreLast, AreOptions, AreRunTexts, AreRun, rows_or_most, nothing, named, limited, by_line, over}
 use Rattle.cmd_dispatch.specs.FrontWords.{StartsWithLimit}
 use Rattle.cmd_session.specs.Words.{IsRowLimit}
 use Rattle.cmd_dispatch.specs.declared.words.RunForm.{RunForm}
+
+-- a text is the shortest form of one number
+pub one_size : (most : ℕ) (text : List ℕ) (number n : ℕ) → most < 2 ^ 64 → number < 2 ^ 64 → text ≡ decimal number → IsSize most text n → number ≡ n
+one_size most text number n bound small e is = decimal_injective number n small (omega (arith, bound, is.few)) (sym e ∙ is.digits)
 
 pub one_word : {A : Type 0} (ws : List A) (w : A) → 1 ≤ length ws → length ws < 2 → w ≡ get_or ws 0 w → ws ≡ w ∷ []
 one_word [] w a b e = absurd (omega arith)

@@ -1,5 +1,5 @@
 -- What the words after the program's name ask for.
-use Rattle.std.specs.Prelude.{ℕ, ◌<◌, ◌≤◌, ◌^◌, ⊤, Bool, true, false, IsTrue, List, length, String}
+use Rattle.std.specs.Prelude.{◌<◌, ◌≤◌, ◌^◌, ⊤, Bool, true, false, IsTrue, List, length, String}
 use Rattle.std.specs.declared.alloc.Global.{Global}
 use Rattle.io_streams.specs.Source.{SourceState}
 use Rattle.cmd_dispatch.specs.declared.command.Command.{Command}
@@ -64,15 +64,3 @@ HasFile true files = 0 < length files
 -- no words of the forms; or they name a file, and there is none
 abbrev pub AreOther : List (String Global) → List SourceState → Type 0
 AreOther words files = (command : Command) → Asks words command → HasFile (names_file command) files → ⊥
-
--- whether a command reads a script of one query, or advises on a script or on its keys
-abbrev pub is_script : Command → Bool
-is_script (Run form) = false
-is_script (Load rows) = false
-is_script (Lower form) = true
-is_script Certify = true
-is_script Check = true
-is_script (Advise file) = true
-is_script (Split file) = true
-is_script Help = false
-is_script Version = false

@@ -1,13 +1,12 @@
 -- The words of a load.
-use Rattle.std.specs.Prelude.{◌≡◌, ℕ, ◌<◌, ◌≤◌, List, [], ◌∷◌, map, codes, decimal, String}
+use Rattle.std.specs.Prelude.{◌≡◌, ℕ, List, [], ◌∷◌, map, codes, String}
 use Rattle.std.specs.String.{string_bytes}
 use Rattle.std.specs.declared.alloc.Global.{Global}
+use Rattle.cmd_dispatch.specs.Words.{IsSize}
 
 -- a number of rows of a load, in its shortest form
-pub record IsLoadSize (text : List ℕ) (rows : ℕ) : Type 0 where
-  pub digits : text ≡ decimal rows
-  pub some : 0 < rows
-  pub few : rows ≤ 100000
+abbrev pub IsLoadSize : List ℕ → ℕ → Type 0
+IsLoadSize text rows = IsSize 100000 text rows
 
 -- `load N` loads N rows
 pub record AreLoadTexts (texts : List (List ℕ)) (rows : ℕ) : Type 0 where

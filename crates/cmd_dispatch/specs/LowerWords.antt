@@ -1,16 +1,15 @@
 -- The words that ask for a family.
-use Rattle.std.specs.Prelude.{◌≡◌, ℕ, ◌<◌, ◌≤◌, List, [], ◌∷◌, ◌++◌, map, codes, decimal, String}
+use Rattle.std.specs.Prelude.{◌≡◌, ℕ, List, [], ◌∷◌, ◌++◌, map, codes, String}
 use Rattle.std.specs.String.{string_bytes}
 use Rattle.std.specs.declared.alloc.Global.{Global}
 use Rattle.cmd_lower.specs.declared.form.Families.{Families}
 use Rattle.cmd_lower.specs.declared.form.Families.TheVariants.{FirstTwo, All}
 use Rattle.cmd_lower.specs.declared.form.LowerForm.{LowerForm}
+use Rattle.cmd_dispatch.specs.Words.{IsSize}
 
 -- a number of rows of a family, in its shortest form
-pub record IsFamilySize (text : List ℕ) (rows : ℕ) : Type 0 where
-  pub digits : text ≡ decimal rows
-  pub some : 0 < rows
-  pub few : rows ≤ 1000
+abbrev pub IsFamilySize : List ℕ → ℕ → Type 0
+IsFamilySize text rows = IsSize 1000 text rows
 
 -- the option that says for which conditions families are made, where one is needed
 abbrev pub option_of : Families → List (List ℕ)

@@ -1,11 +1,17 @@
 -- The words of a session.
-use Rattle.std.specs.Prelude.{◌≡◌, ◌≢◌, ℕ, ◌^◌, Bool, true, false, List, [], ◌∷◌, map, codes, String}
+use Rattle.std.specs.Prelude.{◌≡◌, ◌≢◌, ℕ, ◌<◌, ◌≤◌, ◌^◌, Bool, true, false, List, [], ◌∷◌, map, codes, decimal, String}
 use Rattle.std.specs.String.{string_bytes}
 use Rattle.std.specs.declared.alloc.Global.{Global}
 use Rattle.std.specs.declared.option.Option.{Option}
 use Rattle.std.specs.declared.option.Option.TheVariants.{None, Some}
 use Rattle.cmd_session.specs.Words.{IsRowLimit}
 use Rattle.cmd_dispatch.specs.declared.words.RunForm.{RunForm}
+
+-- a number from 1 to a bound, in its shortest form
+pub record IsSize (most : ℕ) (text : List ℕ) (rows : ℕ) : Type 0 where
+  pub digits : text ≡ decimal rows
+  pub some : 0 < rows
+  pub few : rows ≤ most
 
 -- a name of a file: it is not empty, and does not begin with `-`
 abbrev pub IsFileName : List ℕ → Type 0

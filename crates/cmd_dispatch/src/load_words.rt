@@ -2,7 +2,8 @@
 ghost use Rattle.std.specs.Prelude.{◌≡◌, ℕ, ◌<◌, ◌≤◌, IfSome, MatchOption};
 ghost use Rattle.cmd_dispatch.specs.LoadWords.{IsLoadSize, AreLoad};
 
-use cmd_session::{is_word, read_number};
+use crate::words::read_size;
+use cmd_session::is_word;
 
 /// The most rows of a load.
 const MOST_ROWS: u64 = 100_000;
@@ -11,17 +12,9 @@ const MOST_ROWS: u64 = 100_000;
 fn read_load_size(text: &str) -> Option<u32>
     ensures { MatchOption result ((n : ℕ) → IsLoadSize text.now n → ⊥) (λ n. IsLoadSize text.now n) }
 {
-    match read_number(text) {
+    match read_size(text, MOST_ROWS) {
+        Some(rows) => Some(rows as u32),
         None => None,
-        Some(number) => {
-            if number == 0 {
-                None
-            } else if MOST_ROWS < number {
-                None
-            } else {
-                Some(number as u32)
-            }
-        }
     }
 }
 

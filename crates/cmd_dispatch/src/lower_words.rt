@@ -3,36 +3,22 @@ ghost use Rattle.std.specs.Prelude.{◌≡◌, ℕ, ◌<◌, ◌≤◌, IfSome, 
 ghost use Rattle.cmd_lower.specs.declared.form.LowerForm.{LowerForm};
 ghost use Rattle.cmd_dispatch.specs.LowerWords.{IsFamilySize, AreLower};
 
+use crate::words::read_size;
 use cmd_lower::{Families, LowerForm};
-use cmd_session::{is_word, read_number};
+use cmd_session::is_word;
 
 /// The most rows of a family.
 const MOST_ROWS: u64 = 1000;
-
-// The number of rows that a text is.
-fn read_family_size(text: &str) -> Option<u16>
-    ensures { MatchOption result ((n : ℕ) → IsFamilySize text.now n → ⊥) (λ n. IsFamilySize text.now n) }
-{
-    match read_number(text) {
-        None => None,
-        Some(number) => {
-            if number == 0 {
-                None
-            } else if MOST_ROWS < number {
-                None
-            } else {
-                Some(number as u16)
-            }
-        }
-    }
-}
 
 // What is asked for with a text as the number of rows.
 fn form_with(text: &str, families: Families) -> Option<LowerForm>
     ensures { MatchOption result ((n : ℕ) → IsFamilySize text.now n → ⊥) (λ form. IsFamilySize text.now form.rows × (form.families ≡ families)) }
 {
-    match read_family_size(text) {
-        Some(rows) => Some(LowerForm { rows, families }),
+    match read_size(text, MOST_ROWS) {
+        Some(rows) => Some(LowerForm {
+            rows: rows as u16,
+            families,
+        }),
         None => None,
     }
 }

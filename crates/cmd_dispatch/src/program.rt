@@ -2,8 +2,8 @@
 ghost use Rattle.std.specs.Prelude.{◌≤◌, ◌↔◌, IsTrue, map};
 ghost use Rattle.io_streams.specs.Counts.{Rose};
 ghost use Rattle.cmd_session.specs.Run.{IsNoFault};
-ghost use Rattle.cmd_dispatch.specs.Commands.{HasFile, IsAllowed, is_script, names_file};
-ghost use Rattle.cmd_dispatch.specs.Ends.{Ends, EndsOn, OverScript};
+ghost use Rattle.cmd_dispatch.specs.Commands.{HasFile, IsAllowed, names_file};
+ghost use Rattle.cmd_dispatch.specs.Ends.{Ends, EndsOn};
 ghost use Rattle.cmd_dispatch.specs.Files.{NoneFell, SomeRose};
 
 use crate::command::{Command, command_of, names_file};
@@ -17,53 +17,6 @@ use cmd_certify::{certify, check_script};
 use cmd_lower::lower;
 use io_streams::{Sink, Source, Status};
 use std::alloc::Global;
-
-// Does what a command over a script asks for, with the script in this source.
-fn over_script<I: Source, O: Sink>(
-    alloc: Global,
-    command: Command,
-    source: &mut I,
-    output: &mut O,
-) -> Status
-    requires script { IsTrue (is_script command) }
-    ensures ends { OverScript result command (I.seen source.old) (I.seen source.new) (O.seen output.old) (O.seen output.new) }
-    ensures source_later { (I.seen source.old).faults ≤ (I.seen source.new).faults }
-    ensures output_later { (O.seen output.old).faults ≤ (O.seen output.new).faults }
-{
-    match command {
-        Command::Lower(form) => lower(alloc, form, source, output),
-        Command::Certify => certify(alloc, source, output),
-        Command::Check => check_script(alloc, source, output),
-        Command::Advise { file: _ } => advise_script(alloc, source, output),
-        Command::Split { file: _ } => split_script(alloc, source, output),
-        Command::Run(_) => unreachable!(),
-        Command::Load(_) => unreachable!(),
-        Command::Help => unreachable!(),
-        Command::Version => unreachable!(),
-    }
-}
-
-// Does what a command over a script asks for, with the script in the first of the files, where one is named, and else in the input.
-fn run_script<F: Source, I: Source, O: Sink>(
-    alloc: Global,
-    command: Command,
-    files: &mut [F],
-    input: &mut I,
-    output: &mut O,
-) -> Ended
-    requires script { IsTrue (is_script command) }
-    requires file { HasFile (names_file command) (map F.seen files.old) }
-    ensures ends { EndsOn (names_file command) result.status result.file_failed command (I.seen input.old) (I.seen input.new) (map F.seen files.old) (map F.seen files.new) (O.seen output.old) (O.seen output.new) }
-    ensures input_later { (I.seen input.old).faults ≤ (I.seen input.new).faults }
-    ensures files_later { NoneFell (map F.seen files.old) (map F.seen files.new) }
-    ensures output_later { (O.seen output.old).faults ≤ (O.seen output.new).faults }
-{
-    if names_file(command) {
-        Ended::in_file(over_script(alloc, command, &mut files[0], output))
-    } else {
-        Ended::by(over_script(alloc, command, input, output))
-    }
-}
 
 // Does what a command asks for, where there is a file for it if it reads one.
 fn run_command<F: Source, I: Source, O: Sink>(
@@ -85,11 +38,23 @@ fn run_command<F: Source, I: Source, O: Sink>(
         Command::Load(rows) => Ended::by(load(alloc, rows, output)),
         Command::Help => Ended::by(help(output)),
         Command::Version => Ended::by(version(output)),
-        Command::Lower(_) => run_script(alloc, command, files, input, output),
-        Command::Certify => run_script(alloc, command, files, input, output),
-        Command::Check => run_script(alloc, command, files, input, output),
-        Command::Advise { file: _ } => run_script(alloc, command, files, input, output),
-        Command::Split { file: _ } => run_script(alloc, command, files, input, output),
+        Command::Lower(form) => Ended::by(lower(alloc, form, input, output)),
+        Command::Certify => Ended::by(certify(alloc, input, output)),
+        Command::Check => Ended::by(check_script(alloc, input, output)),
+        Command::Advise { file } => {
+            if file {
+                Ended::in_file(advise_script(alloc, &mut files[0], output))
+            } else {
+                Ended::by(advise_script(alloc, input, output))
+            }
+        }
+        Command::Split { file } => {
+            if file {
+                Ended::in_file(split_script(alloc, &mut files[0], output))
+            } else {
+                Ended::by(split_script(alloc, input, output))
+            }
+        }
     }
 }
 

@@ -166,25 +166,6 @@ fn gather<F: Source, I: Source, O: Sink, L: Ledger>(
     reached
 }
 
-// Answers all lines in a fresh session, and counts no steps.
-fn answer_all<F: Source, I: Source, O: Sink>(
-    form: RunForm,
-    readers: &mut Readers,
-    session: &mut Session,
-    files: &mut [F],
-    input: &mut I,
-    output: &mut O,
-) -> SessionEnd
-    requires file_reader { readers.old.file ≡ fresh }
-    requires input_reader { readers.old.input ≡ fresh }
-    requires stands { HasState session.old }
-    requires file { HasFile form.file (map F.seen files.old) }
-    ensures { (s : State) → StandsFor session.old s
-        → SessionRan form.file result.in_file form.each result.ending s (I.seen input.old) (I.seen input.new) (map F.seen files.old) (map F.seen files.new) (O.seen output.old) (O.seen output.new) }
-{
-    gather::<F, I, O, Brand>(form, readers, session, files, input, output, Blank::new(2))
-}
-
 // The status that an ending leads to.
 fn status_of(ending: Ending) -> Status
     ensures { result ≡ status_of ending }
@@ -233,7 +214,16 @@ pub fn run_session<F: Source, I: Source, O: Sink>(
     let Ok(mut session) = Session::new(alloc, form.limit) else {
         return Ended::by(Status::Memory);
     };
-    let reached = answer_all(form, &mut readers, &mut session, files, input, output);
+    // It counts no steps.
+    let reached = gather::<F, I, O, Brand>(
+        form,
+        &mut readers,
+        &mut session,
+        files,
+        input,
+        output,
+        Blank::new(2),
+    );
     session.close();
     Ended {
         status: status_of(reached.ending),

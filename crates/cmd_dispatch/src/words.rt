@@ -2,10 +2,10 @@
 ghost use Rattle.std.specs.Prelude.{◌≡◌, ◌↔◌, ℕ, ◌<◌, ◌≤◌, ◌^◌, Bool, IsTrue, IfSome, MatchOption, List, None, false, [], ◌∷◌, map};
 ghost use Rattle.std.specs.String.{string_bytes};
 ghost use Rattle.cmd_dispatch.specs.declared.words.RunForm.{RunForm};
-ghost use Rattle.cmd_dispatch.specs.Words.{IsFileName, AreLast, AreOptions, AreRun, rows_or_most};
+ghost use Rattle.cmd_dispatch.specs.Words.{IsFileName, IsSize, AreLast, AreOptions, AreRun, rows_or_most};
 ghost use Rattle.cmd_dispatch.specs.FrontWords.{StartsWithLimit};
 
-use cmd_session::{Session, is_word, read_row_limit};
+use cmd_session::{Session, is_word, read_number, read_row_limit};
 
 /// The most rows that a session may take.
 const MOST_ROWS: u64 = Session::MOST_ROWS;
@@ -72,6 +72,25 @@ pub fn last_words(words: &[String]) -> Option<bool>
             }
         }
         _ => None,
+    }
+}
+
+/// Returns the number from 1 to this bound that a text is, in its shortest form.
+pub fn read_size(text: &str, most: u64) -> Option<u64>
+    ensures size { MatchOption result ((n : ℕ) → IsSize most text.now n → ⊥) (λ n. IsSize most text.now n) }
+    ensures few { IfSome result (λ n. n ≤ most) }
+{
+    match read_number(text) {
+        None => None,
+        Some(number) => {
+            if number == 0 {
+                None
+            } else if most < number {
+                None
+            } else {
+                Some(number)
+            }
+        }
     }
 }
 

@@ -15,34 +15,38 @@ use Rattle.fam_text.specs.Answer.{AreTakenRows}
 use Rattle.fam_text.specs.Text.{rows_text}
 use Rattle.cmd_lower.specs.declared.finding.LowerFinding.{LowerFinding}
 use Rattle.cmd_lower.specs.declared.finding.LowerFinding.TheVariants.{Rows}
+use Rattle.cmd_lower.specs.declared.form.Families.{Families}
 use Rattle.cmd_lower.specs.declared.form.LowerForm.{LowerForm}
-use Rattle.cmd_lower.specs.Finding.{AreMadeFor, IsShown, by_plain, by_form, IsFinding}
+use Rattle.cmd_lower.specs.Finding.{AreMadeFor, IsShown, by_plain, moved, by_form, IsFinding}
 use Rattle.cmd_lower.specs.Text.{head_text, end_text, finding_text}
 use Rattle.sql_replies.proofs.Named.{violation_is_named}
 use Rattle.sql_printer.proofs.WritesBehind.{writes_behind}
 
 -- a family that is found is one for what is broken first
 pub rows-found : (streams : List Shape) (q : QueryValue) (wanted : LowerForm) (finding : LowerFinding) (part : ℕ) (condition : Condition) (a : Attr) (f : FamilyValue) → finding ≡ Rows part condition a f → IsFinding streams q wanted finding
-    → AreMadeFor wanted.families condition × IsShown streams q wanted.rows part condition a f
+    → AreMadeFor wanted.families condition × IsShown streams q wanted.families wanted.rows part condition a f
 rows-found streams q wanted finding part condition a f e is = subst (IsFinding streams q wanted) e is
 
-module _ (streams : List Shape) (q : QueryValue) (n part : ℕ) (condition : Condition) (a : Attr) (f : FamilyValue) where
+module _ (streams : List Shape) (q : QueryValue) (asked : Families) (n part : ℕ) (condition : Condition) (a : Attr) (f : FamilyValue) where
   -- it is a family for the column that is named
-  pub shown-family : IsShown streams q n part condition a f → IsFamily q condition a n f
+  pub shown-family : IsShown streams q asked n part condition a f → IsFamily q condition a n f
   shown-family (by_plain judged is h) = h.family
+  shown-family (moved all judged b is h) = h.family
   shown-family (by_form judged b is h) = h.family
 
   -- which the streams have
-  pub shown-column : HasNamed streams q → IsShown streams q n part condition a f → IsColumnOf streams q.from a
+  pub shown-column : HasNamed streams q → IsShown streams q asked n part condition a f → IsColumnOf streams q.from a
   shown-column named (by_plain judged is h) = violation_is_named streams q _ named is
+  shown-column named (moved all judged b is h) = h.column
   shown-column named (by_form judged b is h) = h.column
 
   -- its rows are rows of the streams
-  pub shown-taken : IsShown streams q n part condition a f → AreTakenRows streams (length f.rows) f
+  pub shown-taken : IsShown streams q asked n part condition a f → AreTakenRows streams (length f.rows) f
   shown-taken is = subst (λ (m : ℕ). AreTakenRows streams m f) (sym (shown-family is).size) (by is)
     where
-      by : IsShown streams q n part condition a f → AreTakenRows streams n f
+      by : IsShown streams q asked n part condition a f → AreTakenRows streams n f
       by (by_plain judged is h) = h.taken
+      by (moved all judged b is h) = h.taken
       by (by_form judged b is h) = h.taken
 
 module _ (streams : List Shape) (q : QueryValue) (name title : List ℕ) (n part : ℕ) (condition : Condition) (a : Attr) (column : ColumnAst) (f : FamilyValue)

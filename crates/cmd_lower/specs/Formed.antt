@@ -3,10 +3,14 @@ use Rattle.std.specs.Prelude.{ℕ, Bool, not, ◌&&◌, IsTrue, IsFalse, Some}
 use Rattle.sem_query.specs.declared.atom.Attr.{Attr}
 use Rattle.sem_query.specs.declared.condition.Condition.{Condition}
 use Rattle.sem_query.specs.Query.{QueryValue, is_filter}
+use Rattle.sem_query.specs.Domains.{RowKeeps}
 use Rattle.sem_query.specs.Parts.{HasMoreParts}
 use Rattle.sem_query.specs.Violation.{Failure}
 use Rattle.sem_forms.specs.Forms.{HasWholeForm}
 use Rattle.sem_forms.specs.Parts.{HasTooManyParts, IsFormViolation}
+use Rattle.sem_lower_bounds.specs.Served.{HasFewStatesOn}
+use Rattle.sem_lower_bounds.specs.States.{Evaluator}
+use Rattle.sem_lower_bounds.specs.Within.{IsRightOn}
 
 -- compact and no filter
 abbrev pub goes_by_form : QueryValue → Bool
@@ -22,6 +26,10 @@ pub record BreaksFirst (q : QueryValue) (condition : Condition) : Type 0 where
 pub record BreaksOne (q : QueryValue) : Type 0 where
   pub first : Failure
   pub is : IsFormViolation q (Some first)
+
+-- an evaluator that is right on rows within the domains has few states
+abbrev pub FewAreEnough : QueryValue → Type 0
+FewAreEnough q = (e : Evaluator) × IsRightOn (RowKeeps q) q e × HasFewStatesOn (RowKeeps q) e
 
 -- there are too many parts: plain ones, or of the split form of a compact query whose whole form does not fit
 pub data IsTooLarge (q : QueryValue) : Type 0 where

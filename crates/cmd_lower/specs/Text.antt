@@ -14,6 +14,7 @@ use Rattle.cmd_lower.specs.declared.finding.LowerFinding.TheVariants.{Nothing, R
 -- the line of a query that has no family, as `no family C3`
 abbrev pub nothing_text : NoFamily → List ℕ
 nothing_text why.Bounded = codes "no family bounded" ++ 10 ∷ []
+nothing_text why.Few = codes "no family few" ++ 10 ∷ []
 nothing_text why.Form = codes "no family form" ++ 10 ∷ []
 nothing_text why.C2 = codes "no family C2" ++ 10 ∷ []
 nothing_text why.C3 = codes "no family C3" ++ 10 ∷ []

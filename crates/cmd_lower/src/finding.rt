@@ -1,10 +1,17 @@
 //! What is found for the query of a script.
-ghost use Rattle.std.specs.Prelude.{◌≡◌, ◌≤◌, IsTrue, IsFalse, Some, length};
+ghost use Rattle.std.specs.Prelude.{◌≡◌, ◌≤◌, false, IsTrue, IsFalse, Some, length};
+ghost use Rattle.sem_query.specs.declared.decision.Decision.TheVariants as decisions;
+ghost use Rattle.sem_query.specs.Query.{IsWithinLimits};
 ghost use Rattle.sem_query.specs.Parts.{AreParts, sign_lists};
+ghost use Rattle.sem_query.specs.Verdict.{IsDecision};
 ghost use Rattle.sem_forms.specs.Forms.{HasWholeForm};
 ghost use Rattle.sem_forms.specs.Parts.{HasTooManyParts, IsFormViolation};
 ghost use Rattle.sql_parser.specs.Resolution.{HasNamed};
 ghost use Rattle.cmd_lower.specs.Formed as formed;
+ghost use Rattle.cmd_lower.specs.declared.form.Families.TheVariants as families;
+ghost use Rattle.cmd_lower.specs.declared.finding.LowerFinding.TheVariants.{Nothing};
+ghost use Rattle.cmd_lower.specs.Finding.{NeedsManyWithDistinct, IsFinding};
+ghost use Rattle.cmd_lower.specs.Formed.{BreaksOne, IsTooLarge, FewAreEnough};
 ghost use Rattle.cmd_lower.specs.Found as found;
 ghost use Rattle.cmd_lower.specs.Found.{FindsFor};
 
@@ -13,6 +20,7 @@ use fam_fooling_sets::{Family, FoundFamily, LowerError};
 use fam_text::{family, found_family};
 use plan_conditions::decide;
 use plan_forms::{PartsRefusal, parts_plan, whole_form};
+use plan_motion::has_motion;
 use plan_parts::{SplitError, split};
 use sem_query::{Attr, Condition, Decision, Part, Query};
 use sql_replies::Refusal;
@@ -24,12 +32,15 @@ use std::alloc::Global;
 pub enum NoFamily {
     /// It breaks no condition.
     Bounded,
-    /// It is compact and breaks a condition by its form, and no family was found.
+    /// It breaks a condition, and yet few states are enough.
+    Few,
+    /// It is compact, breaks a condition by its form and needs many states, and no family was found.
     Form,
-    /// The first condition that it breaks is the second, and a pair lies between streams.
+    /// The first condition that it breaks is the second, a pair lies between streams, and no family was found, or families are made for the first two
+    /// conditions alone.
     C2,
-    /// The first condition that it breaks is the third, and no family is made for that; or it is not compact, and a column has a domain, or a pair lies
-    /// between streams.
+    /// The first condition that it breaks is the third, and no family is made for that; or it is not compact, a column has a domain or a pair lies
+    /// between streams, and no family was found.
     C3,
 }
 
@@ -113,6 +124,90 @@ fn refused(script: &Script) -> ScriptEnd
     }
 }
 
+// Whether with DISTINCT no values of a query move that breaks a condition. Few states are enough then, and many are needed else.
+fn is_still(query: &Query) -> bool
+    requires { BreaksOne query.now }
+    ensures few { IsTrue result → FewAreEnough query.now }
+    ensures many { IsFalse result → NeedsManyWithDistinct query.now }
+    ensures limits { IsWithinLimits query.now }
+{
+    // No effect at run time. The proof reads from this call that the query is within the limits.
+    let _atoms = query.atoms();
+    if has_motion(query) {
+        return false;
+    }
+    query.distinct()
+}
+
+// A family whose rows move in equal steps, for what the plain parts break, or why there is none: few states are enough, or this reason.
+fn find_moved(
+    alloc: Global,
+    script: &Script,
+    form: LowerForm,
+    part: u32,
+    condition: Condition,
+    attr: Attr,
+    reason: NoFamily,
+) -> Result<LowerFinding, ScriptEnd>
+    requires named { HasNamed script.now.catalog script.now.query }
+    requires plain { IsFalse (formed.goes_by_form script.now.query) }
+    requires few { ¬ IsTooLarge script.now.query }
+    requires all { form.families ≡ families.All }
+    requires broken { IsDecision script.now.query (decisions.Violation part condition attr) }
+    requires reason { NeedsManyWithDistinct script.now.query → IsFinding script.now.catalog script.now.query form (Nothing reason) }
+    ensures { FindsFor result script.now form }
+{
+    if is_still(&script.query) {
+        return Ok(LowerFinding::Nothing(NoFamily::Few));
+    }
+    match found_family(
+        alloc,
+        &script.query,
+        condition,
+        attr,
+        &script.catalog,
+        form.rows,
+    ) {
+        Ok(Some(FoundFamily { attr, family })) => Ok(LowerFinding::Rows {
+            part,
+            condition,
+            attr,
+            family,
+        }),
+        Ok(None) => Ok(LowerFinding::Nothing(reason)),
+        Err(_) => Err(ScriptEnd::Memory),
+    }
+}
+
+// The same for what a decision says, where families are made for all three conditions; else this reason.
+fn find_decided(
+    alloc: Global,
+    script: &Script,
+    form: LowerForm,
+    decision: Decision,
+    reason: NoFamily,
+) -> Result<LowerFinding, ScriptEnd>
+    requires named { HasNamed script.now.catalog script.now.query }
+    requires plain { IsFalse (formed.goes_by_form script.now.query) }
+    requires few { ¬ IsTooLarge script.now.query }
+    requires decision { IsDecision script.now.query decision }
+    requires reason { (form.families ≡ families.All → NeedsManyWithDistinct script.now.query) → IsFinding script.now.catalog script.now.query form (Nothing reason) }
+    ensures { FindsFor result script.now form }
+{
+    match (form.families, decision) {
+        (Families::FirstTwo, _) => Ok(LowerFinding::Nothing(reason)),
+        (Families::All, Decision::Bounded) => Ok(LowerFinding::Nothing(NoFamily::Bounded)),
+        (
+            Families::All,
+            Decision::Violation {
+                part,
+                condition,
+                attr,
+            },
+        ) => find_moved(alloc, script, form, part, condition, attr, reason),
+    }
+}
+
 // The family of the query of a script, or why there is none, by these plain parts of the query.
 fn find_in(
     alloc: Global,
@@ -130,15 +225,20 @@ fn find_in(
     if is_left_out(form.families, decision) {
         return Ok(LowerFinding::Nothing(NoFamily::C3));
     }
-    let answer = family(
+    match family(
         alloc,
         &script.query,
         parts,
         &decision,
         &script.catalog,
         form.rows,
-    );
-    finding_of(decision, answer)
+    ) {
+        Ok(rows) => finding_of(decision, Ok(rows)),
+        Err(LowerError::C2) => find_decided(alloc, script, form, decision, NoFamily::C2),
+        Err(LowerError::C3) => find_decided(alloc, script, form, decision, NoFamily::C3),
+        Err(LowerError::Bounded) => Ok(LowerFinding::Nothing(NoFamily::Bounded)),
+        Err(LowerError::Memory) => Err(ScriptEnd::Memory),
+    }
 }
 
 // The same by the plain parts.
@@ -176,6 +276,9 @@ fn find_for(
     };
     if is_left_out(form.families, decision) {
         return Ok(LowerFinding::Nothing(NoFamily::C3));
+    }
+    if is_still(&script.query) {
+        return Ok(LowerFinding::Nothing(NoFamily::Few));
     }
     match found_family(
         alloc,

@@ -1,10 +1,19 @@
-//! The lines before and behind the rows of a family, and those of a query that has none. Each is one call that writes a list of pieces.
-ghost use Rattle.std.specs.Prelude.{◌≡◌, ◌++◌, ◌∷◌};
+//! The lines before and behind the rows of a family, and those of a query that has none.
+ghost use Rattle.std.specs.Prelude.{◌≡◌, decimal};
 ghost use Rattle.io_streams.specs.Sink.{Writes};
+ghost use Rattle.sql_parser.specs.Naming.{column_text};
+ghost use Rattle.sql_replies.specs.Texts as texts;
 ghost use Rattle.cmd_lower.specs.Text.{nothing_text, head_text, end_text};
 
 use crate::finding::NoFamily;
+use adv_templates::{Filling, write_filled};
 use io_streams::{Sink, WriteFault, write_all, write_pieces};
+use sem_query::Condition;
+use sql_parser::ColumnAst;
+use sql_replies::condition_text;
+
+/// The first line of a family: the query, the part, the condition, the two names of the column, and how many rows there are.
+pub const HEAD: &[u8] = b"family _ part _ _ _._ size _\n";
 
 // `no family C3`
 fn nothing_line(reason: NoFamily) -> &'static [u8]
@@ -12,6 +21,7 @@ fn nothing_line(reason: NoFamily) -> &'static [u8]
 {
     match reason {
         NoFamily::Bounded => b"no family bounded\n",
+        NoFamily::Few => b"no family few\n",
         NoFamily::Form => b"no family form\n",
         NoFamily::C2 => b"no family C2\n",
         NoFamily::C3 => b"no family C3\n",
@@ -25,23 +35,27 @@ pub fn write_nothing<O: Sink>(out: &mut O, reason: NoFamily) -> Result<(), Write
     write_all(out, nothing_line(reason))
 }
 
-/// Writes the first line of a family, by its parts: `family q part 1 C1 S.a size 2`.
+/// Writes the first line of a family: `family q part 1 C1 S.a size 2`.
+#[tactic(auto, using(crate::proofs::Texts::head_filled))]
 pub fn write_head<'a, O: Sink>(
     out: &mut O,
     name: &'a [u8],
-    part: &'a [u8],
-    condition: &'a [u8],
-    stream: &'a [u8],
-    column: &'a [u8],
-    size: &'a [u8],
+    part: u32,
+    condition: Condition,
+    column: &'a ColumnAst,
+    size: u16,
 ) -> Result<(), WriteFault>
-    ensures { Writes result (O.seen out.old) (O.seen out.new) (head_text name.now part.now condition.now (stream.now ++ 46 ∷ column.now) size.now) }
+    ensures { Writes result (O.seen out.old) (O.seen out.new) (head_text name.now (decimal part) (texts.condition_text condition) (column_text column.now) (decimal size)) }
 {
-    let pieces: [&[u8]; 13] = [
-        b"family ", name, b" part ", part, b" ", condition, b" ", stream, b".", column, b" size ",
-        size, b"\n",
+    let fillings = [
+        Filling::Text(name),
+        Filling::Count(part),
+        Filling::Fixed(condition_text(condition)),
+        Filling::Text(column.stream.bytes()),
+        Filling::Text(column.column.bytes()),
+        Filling::Count(u32::from(size)),
     ];
-    write_pieces(out, &pieces)
+    write_filled(out, HEAD, &fillings)
 }
 
 /// Writes the last line of a family: `end q`.

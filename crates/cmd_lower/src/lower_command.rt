@@ -115,10 +115,11 @@ fn end_done<O: Sink>(lowered: &Lowered, form: LowerForm, output: &mut O) -> Stat
 /// that ask for each of them. Whatever set of these rows came before, the answers to the rows that ask tell the set: where C3 refuses a query without
 /// DISTINCT, any two sets by how many answers there are. So whatever answers the query has to tell 2^n histories apart.
 ///
-/// The family is for the first condition that the query breaks; of a compact one, for the first that it breaks without COMPACT, which changes no answer.
-/// One line says that there is none: where the query breaks no condition; where it is compact and breaks one by its form alone; where C2 refuses it and a
-/// pair lies between streams; where C3 does, and the form asks for the first two conditions alone, or the query is compact, a column has a domain, or a
-/// pair lies between streams.
+/// The family is for the first condition that the query breaks; of a compact one that is no filter, for the first that its split form breaks. Its rows may be of
+/// another stream than the column at fault where they move in equal steps: such rows are sought of a compact query, and of each where the form asks for all three
+/// conditions. One line says that there is none: where the query breaks no condition; where they are sought, and yet few states are enough; where C3 refuses it, and
+/// the form asks for the first two conditions alone; or where no rows were found, though many states are needed if it is compact, or they are sought and it has
+/// DISTINCT.
 ///
 /// The script is read, and its lines are refused, as those of `certify`; the line of a query of more than 4,096 parts is refused with the word `Limit`, as
 /// is that of a compact one with more split pairs or split parts than a query may have. Nothing is written before it is known what the command comes to, so nothing is where the source fails or has more bytes than can

@@ -10,6 +10,7 @@ ghost use Rattle.fam_text.specs.Text.{rows_text};
 ghost use Rattle.cmd_lower.specs.Finding.{IsShown};
 ghost use Rattle.cmd_lower.specs.Found.{IsSound, text_of};
 ghost use Rattle.cmd_lower.specs.declared.finding.LowerFinding.TheVariants as findings;
+ghost use Rattle.cmd_lower.specs.declared.form.Families.{Families};
 ghost use Rattle.cmd_lower.specs.Text.{head_text, end_text, finding_text};
 
 use crate::finding::LowerFinding;
@@ -19,39 +20,10 @@ use crate::lower_command::Lowered;
 use fam_fooling_sets::Family;
 use fam_text::write_rows;
 use io_streams::{Sink, WriteFault};
-use itoa::Buffer;
 use sem_query::{Attr, Condition};
 use sql_catalog::Catalog;
-use sql_parser::ColumnAst;
 use sql_printer::column_named;
-use sql_replies::condition_text;
 use sql_script::{Script, name_of};
-
-// `family q part 1 C1 S.a size 2`
-fn write_first<O: Sink>(
-    out: &mut O,
-    name: &[u8],
-    part: u32,
-    condition: Condition,
-    column: &ColumnAst,
-    size: u16,
-) -> Result<(), WriteFault>
-    ensures { Writes result (O.seen out.old) (O.seen out.new) (head_text name.now (decimal part) (texts.condition_text condition) (column_text column.now) (decimal size)) }
-{
-    let mut number = Buffer::new();
-    let part = number.format(part).as_bytes();
-    let mut count = Buffer::new();
-    let size = count.format(size).as_bytes();
-    write_head(
-        out,
-        name,
-        part,
-        condition_text(condition),
-        column.stream.bytes(),
-        column.column.bytes(),
-        size,
-    )
-}
 
 // The rows of a family, and its last line.
 #[tactic(auto, using(sql_printer::proofs::WritesBehind::writes_behind))]
@@ -83,12 +55,12 @@ fn write_family<O: Sink>(
     n: u16,
 ) -> Result<(), WriteFault>
     requires named { HasNamed script.now.catalog script.now.query }
-    requires shown { IsShown script.now.catalog script.now.query n part condition attr family.now }
+    requires shown { (asked : Families) × IsShown script.now.catalog script.now.query asked n part condition attr family.now }
     ensures { Writes result (O.seen out.old) (O.seen out.new) (finding_text script.now.catalog (scripts.name_of script.now.statement) script.now.query n (findings.Rows part condition attr family.now)) }
 {
     let name = name_of(&script.statement);
     let column = column_named(attr, script.query.from(), &script.catalog);
-    match write_first(out, name, part, condition, &column, n) {
+    match write_head(out, name, part, condition, &column, n) {
         Ok(()) => write_behind(out, name, &script.catalog, family),
         Err(fault) => Err(fault),
     }

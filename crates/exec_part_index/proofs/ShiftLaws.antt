@@ -44,13 +44,13 @@ dims-are (d ∷ ds) (e ∷ es) h =
 
 -- where the dims are the same, the box begins so many cells later
 pub shift-is : (part other : PartPlan) (listed : BoxLayout) (place at base : ℕ) (kind : Kind) (shift : Option Shift) → IsBoxLayout other place listed → at ≡ place
-    → same_dims (dims_at part at) (dims_at other at) ≡ true → base ≡ (stream_at part at).base → kind ≡ listed.kind
+    → same_dims (dims_at part at) (dims_at other at) ≡ true → base ≡ (stream_at part place).base → kind ≡ listed.kind
     → IfSome shift (λ s. (listed.base ≡ base + s.cells) × (s.kind ≡ kind)) → IfSome shift (λ s. IsShifted part other place s)
 shift-is part other listed place at base kind None is here same from kept to = tt
 shift-is part other listed place at base kind (Some s) is here same from kept to = record {
   several = is.several;
   dims = subst (λ p. dims_at part p ≡ dims_at other p) here (dims-are _ _ same);
-  base = sym is.base ∙ to.0 ∙ ap (λ b. b + s.cells) (from ∙ ap (λ p. (stream_at part p).base) here);
+  base = sym is.base ∙ to.0 ∙ ap (λ b. b + s.cells) from;
   kind = to.1 ∙ kept ∙ is.kind;
   few = subst (λ b. b + box_size (dims_at other place) < 2 ^ 32) is.base is.few;
 }

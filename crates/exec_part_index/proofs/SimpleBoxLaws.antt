@@ -4,6 +4,7 @@ use Rattle.std.specs.List.{list_all}
 use Rattle.std.specs.Option.{IfSome}
 use Rattle.std.proofs.lemmas.List.{length-map}
 use Rattle.std.proofs.lemmas.Option.{get_or_from_slice_get}
+use Rattle.sem_query.specs.declared.plan.Dim.{Dim}
 use Rattle.sem_query.specs.declared.plan.PartPlan.{PartPlan}
 use Rattle.sem_query.specs.Boxes.{box_size}
 use Rattle.sem_query.specs.Plan.{stream_at, dims_at}
@@ -12,7 +13,7 @@ use Rattle.sem_query.specs.Meaning.{by_column}
 use Rattle.sem_query.specs.Cells.{row_place}
 use Rattle.exec_synopsis.specs.declared.axes.Placement.{Placement}
 use Rattle.exec_synopsis.specs.declared.axes.Placement.TheVariants.{Outside, Cell}
-use Rattle.exec_synopsis.specs.Axes.{axis_of, IsAbove}
+use Rattle.exec_synopsis.specs.Axes.{axis_of, IsAbove, is_inside, IsCell}
 use Rattle.exec_synopsis.proofs.AxisLaws.{SoFar, start, at-end, further, out}
 use Rattle.exec_part_index.specs.declared.shift.CellAt.{CellAt}
 use Rattle.exec_part_index.specs.declared.simple_box.OneDimBox.{OneDimBox}
@@ -21,6 +22,7 @@ use Rattle.exec_part_index.specs.declared.simple_box.SimpleBox.{SimpleBox}
 use Rattle.exec_part_index.specs.Shift.{placed}
 use Rattle.exec_part_index.specs.PartEntry.{IsCellIn}
 use Rattle.exec_part_index.specs.SimpleBox.{axis_in, IsOneDimBox, IsTwoDimBox, IsSimpleBox, IsInBox}
+use Rattle.exec_part_index.proofs.Telling.{and-true}
 
 module _ (part : PartPlan) (place : ℕ) (single : OneDimBox) (is : IsOneDimBox part place single) (row : List ℤ) where
   begun : SoFar (by_column row) (dims_at part place) 0 0
@@ -112,3 +114,11 @@ cell_in_box parts place row i part at placement there None is = tt
 cell_in_box parts place row i part at placement there (Some cell) is = λ p at_p.
     subst (λ x. IsInBox x place row (placed cell)) (at ∙ get_or_from_slice_get parts i p part at_p)
     (subst (λ o. IfSome o (λ x. IsInBox part place row x)) is there)
+
+-- a row stands inside a part of one dim without a cell where its value is in range
+pub in_one_range : (part : PartPlan) (place : ℕ) (dim : Dim) → dims_at part place ≡ dim ∷ [] → (row : List ℤ) (placement : Placement) → is_inside placement ≡ in_range (by_column row) dim → IsCell part place row placement
+    → IsInBox part place row placement
+in_one_range part place dim is row placement inside cell = record {
+  inside = inside ∙ sym (ap (λ (ds : List Dim). list_all (in_range (by_column row)) ds) is ∙ and-true (in_range (by_column row) dim));
+  cell = cell;
+}

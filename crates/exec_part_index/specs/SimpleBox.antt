@@ -31,7 +31,7 @@ IsSimpleBox part place SimpleBox.Unlisted = Unit {0}
 IsSimpleBox part place (SimpleBox.Cell cell) = IsBoxLayout part place (record { axes = record { items = [] }; base = cell.number; kind = cell.kind })
 IsSimpleBox part place (SimpleBox.OneDim single) = IsOneDimBox part place single
 IsSimpleBox part place (SimpleBox.TwoDim double) = IsTwoDimBox part place double
-IsSimpleBox part place SimpleBox.Open = dims_at part place ≡ []
+IsSimpleBox part place (SimpleBox.Range dim) = dims_at part place ≡ dim ∷ []
 
 -- where a row stands by the ranges of the dims
 abbrev pub IsInBox : PartPlan → ℕ → List ℤ → Placement → Type 0

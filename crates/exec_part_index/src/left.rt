@@ -16,9 +16,8 @@ use exec_synopsis::{OwnCell, Placement};
 use sem_query::{Cell, Row};
 use std::sync::ledger::Ledger;
 
-/// A row that is led to the parts of its bucket at a place of FROM, the chains of the place, whether each part takes rows into a box of
-/// its own there, what the parts are asked of every row, the extent of the cells, and whether it is known that a row which leaves its
-/// cell as it is is answered nothing new.
+/// A row that is led to the parts of its bucket, the chains of its place, whether each part takes rows into a box of its own, what the
+/// parts are asked, the extent of the cells, and whether it is known that a row which leaves its cell as it is is answered nothing new.
 #[derive(Clone, Copy)]
 pub struct Led<'a> {
     pub coded: CodedRow<'a>,
@@ -136,8 +135,7 @@ fn next_by(led: &Led<'_>, entry: &PartEntry, i: u32) -> u32
     entry.next
 }
 
-// Leads a row from a part that admits it along the chain, as long as it leaves its own cell as it is and that tells its cell in the next
-// part. Each cell that is seen is one read.
+// Leads a row from a part along the chain, as long as it leaves its cell as it is and the next one is told. Each cell seen is one read.
 #[inline(always)]
 fn pass_left<L: Ledger>(
     pool: &Pool,
@@ -189,8 +187,7 @@ fn reached_by(passed: Passed) -> Reached
     }
 }
 
-/// Leads a row from a part along the chain over those parts whose cells it leaves as they are, where it may pass over them, to the first
-/// one whose cell it turns, or of which nothing is told; and to the part itself where its cell there is not told, or it may pass over none.
+/// Leads a row from a part over those whose cells it leaves as they are, where it may pass over them, to the first that it turns or that is not told.
 #[inline(always)]
 pub fn reach<L: Ledger>(
     pool: &Pool,

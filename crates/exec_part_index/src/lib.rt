@@ -1,10 +1,8 @@
 //! The index that leads a row to the parts of a plan that may admit it.
 //!
-//! A row of a stream of FROM is led by its signs to a bucket, a chain of parts. A pair of elements is tested where every part shows one sign at it: each
-//! row that the part admits has that sign there. The signs of at most 20 pairs are one number, the code of a part, and a row that has another is not
-//! admitted. What a part asks beside its code and the ranges of its dims is listed, and asked of the rows that have the code. Where cells are shared,
-//! the index tells which part takes a row into a box. A row passes over parts whose cells it leaves as they are, where it is known that such a row is
-//! answered nothing new.
+//! A row is led by its signs to a bucket, a chain of parts. A pair of elements is tested where every part shows one sign at it. The signs of at most 20
+//! pairs are one number, the code of a part, and a row that has another is not admitted. What a part asks beside its code and the ranges of its dims is
+//! listed. A row passes over parts whose cells it leaves as they are, where it is known that such a row is answered nothing new.
 #![tactic(auto)]
 
 mod left;

@@ -1,5 +1,4 @@
-//! Which parts take a row into a box of their own at a place of FROM. Where cells are shared, several parts have one box, and the first
-//! of them takes a row into it.
+//! Which parts take a row into a box of their own at a place of FROM: of several that share one box, the first takes a row into it.
 ghost use Rattle.std.specs.Prelude.{◌≡◌, ◌<◌, ◌&&◌, nat_lt, not, true, length, IfOk};
 ghost use Rattle.std.specs.List.{list_all};
 ghost use Rattle.sem_query.specs.Plan.{stream_at};
@@ -8,8 +7,8 @@ ghost use Rattle.exec_part_index.specs.Owners.{BeginBehind, AreOwners, EachTakes
 use sem_query::{PartPlan, PartPlans, Query};
 use std::alloc::{AllocError, Global};
 
-// Where the box of a part begins.
-fn base_at(part: &PartPlan, place: u8) -> u32
+/// Returns where the box of a part begins.
+pub fn base_at(part: &PartPlan, place: u8) -> u32
     ensures { result ≡ (stream_at part.now place).base }
 {
     match part.streams.as_slice().get(usize::from(place)) {
@@ -25,8 +24,7 @@ fn is_own(q: &Query, next: u64, base: u64) -> bool
     1 < q.from().len() && next <= base
 }
 
-/// Tells for each part whether it takes rows into a box of its own at a place. A box that no earlier part has begins behind all that came
-/// before it, so that one running number tells it. No part of a query over one stream does. An error says that memory was not found.
+/// Tells for each part whether it takes rows into a box of its own: a new box begins behind all before it. An error says that memory was not found.
 pub fn owners_at(
     alloc: Global,
     q: &Query,

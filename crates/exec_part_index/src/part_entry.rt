@@ -1,5 +1,4 @@
-//! What a row that is led along a chain meets at a part, in one place: the code and the box of the part, the conditions that its code does not tell,
-//! and what is told of the next one.
+//! What a row that is led along a chain meets at a part, in one place.
 ghost use Rattle.std.specs.Prelude.{◌≡◌, ◌<◌, length, IfOk};
 ghost use Rattle.sem_query.specs.Parts.{pairs};
 ghost use Rattle.exec_part_index.specs.Prepared.{ArePrepared};
@@ -15,8 +14,7 @@ use exec_synopsis::Prepared;
 use sem_query::{PartPlan, PartPlans, Query, dims_at};
 use std::alloc::{AllocError, Global};
 
-/// The code of a part, the next part of its bucket, the part's box, the conditions that remain beside its code, how many cells later the box of the
-/// next part begins where a row stands at the same place of both, and whether the next part has the same code and the same remaining conditions.
+/// The box of a part and how far behind it that of the next one begins, its code, the next part, its remaining conditions, and whether the next one asks the same.
 #[derive(Clone, Copy, Debug, PartialEq, Eq, Drop)]
 pub struct PartEntry {
     pub simple_box: SimpleBox,
@@ -31,10 +29,9 @@ pub struct PartEntry {
 fn unlisted_box(part: &PartPlan, place: u8) -> SimpleBox
     ensures { IsSimpleBox part.now place result }
 {
-    if dims_at(part, usize::from(place)).is_empty() {
-        SimpleBox::Open
-    } else {
-        SimpleBox::Unlisted
+    match dims_at(part, usize::from(place)) {
+        [dim] => SimpleBox::Range(*dim),
+        _ => SimpleBox::Unlisted,
     }
 }
 

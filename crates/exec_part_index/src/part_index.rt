@@ -1,5 +1,4 @@
-//! Which parts may admit a row: those of which each row that they admit has the signs that the row has. Parts of one code stand in one bucket, and a
-//! chain leads through them, so that a row is led to them by one look-up.
+//! Which parts may admit a row: those whose signs the row has. Parts of one code stand in one bucket, a chain that one look-up finds.
 ghost use Rattle.std.specs.Prelude.{◌≡◌, ◌+◌, ◌*◌, ◌%◌, ◌^◌, ◌<◌, ◌≤◌, length, map, slice_get, slice_index_or, bit_and, true, Some, IfOk, IfSome};
 ghost use Rattle.std.specs.List.{list_all};
 ghost use Rattle.sem_query.specs.Parts.{pairs, sign, sign_at};
@@ -41,11 +40,9 @@ pub struct PartIndex {
     conditions: Vec<LocalCondition>,
     /// Which of these conditions are a part's.
     spans: Vec<Span>,
-    /// The code of each part.
     codes: Vec<u32>,
-    /// Whether each part takes rows into a box of its own.
+    /// Whether each part takes rows into a box of its own, and whether all do.
     owns: Vec<bool>,
-    /// Whether all do.
     each: bool,
     /// The mask that leaves of a code its bucket: the number of the greatest one.
     mask: u32,
@@ -53,7 +50,6 @@ pub struct PartIndex {
     heads: Vec<u32>,
     /// The next part of the bucket of each part; the number of all parts where there is none.
     links: Vec<u32>,
-    /// What a row meets at each part.
     entries: Vec<PartEntry>,
 }
 
@@ -141,14 +137,6 @@ fn code_of(signs: &[Sign]) -> u32
 }
 
 impl PartIndex {
-    // The code of a row.
-    fn code(&self, q: &Query, parts: &PartPlans, pos: u8, row: &Row) -> u32
-        requires { IsPartIndex q.now parts.now pos self.now }
-        ensures { result ≡ row_code self.now.tested.items (by_column row.now.items) }
-    {
-        code_of_row(row.as_slice(), self.tested.as_slice())
-    }
-
     /// Returns the code of a row, and the first part of its bucket.
     pub fn first(&self, q: &Query, parts: &PartPlans, pos: u8, row: &Row) -> IndexHit
         requires { IsPartIndex q.now parts.now pos self.now }
@@ -156,8 +144,8 @@ impl PartIndex {
         ensures first { IsNext (buckets self.now) (row_bucket self.now (by_column row.now.items)) 0 result.first }
     {
         // Named for the proof alone: the contract speaks of it.
-        let _parts = parts.len();
-        let code = self.code(q, parts, pos, row);
+        let (_query, _parts, _pos) = (q, parts.len(), pos);
+        let code = code_of_row(row.as_slice(), self.tested.as_slice());
         let bucket = bucket_of_code(code, self.mask);
         IndexHit {
             code,
@@ -208,28 +196,6 @@ impl PartIndex {
         )
     }
 
-    // The cell of a row in the next part of a part's bucket by the row's cell in the part, where both parts have one code.
-    fn cell_following(
-        &self,
-        coded: &CodedRow<'_>,
-        cell: CellAt,
-        i: u32,
-        entry: &PartEntry,
-    ) -> Option<CellAt>
-        requires part_index { IsPartIndex coded.now.q.now coded.now.parts.now coded.now.pos self.now }
-        requires entry { IsPartEntry coded.now.parts.now coded.now.pos self.now.codes.items self.now.links.items self.now.spans.items i entry.now }
-        requires stands { StandsAt coded.now.q.now coded.now.parts.now coded.now.pos coded.now.row.now.items i cell }
-        ensures { IfSome result (λ found. StandsAt coded.now.q.now coded.now.parts.now coded.now.pos coded.now.row.now.items (slice_index_or self.now.links.items i 0) found) }
-    {
-        // Named for the proof alone: the contract speaks of them.
-        let (_cell, _part) = (cell, i);
-        if entry.follows {
-            self.cell_in(coded, entry.next)
-        } else {
-            None
-        }
-    }
-
     /// Returns the cell of a row in the next part of a part's bucket, where the row's cell in the part and the boxes of both tell it.
     pub fn cell_after(
         &self,
@@ -268,9 +234,12 @@ impl PartIndex {
         requires stands { StandsAt coded.now.q.now coded.now.parts.now coded.now.pos coded.now.row.now.items i cell }
         ensures { IfSome result (λ found. StandsAt coded.now.q.now coded.now.parts.now coded.now.pos coded.now.row.now.items (slice_index_or self.now.links.items i 0) found) }
     {
+        // Named for the proof alone: the contract speaks of it.
+        let _part = i;
         match entry.shift {
             Some(shift) => Some(shift.after(cell.number)),
-            None => self.cell_following(coded, cell, i, entry),
+            None if entry.follows => self.cell_in(coded, entry.next),
+            None => None,
         }
     }
 
@@ -338,8 +307,7 @@ impl PartIndex {
         }
     }
 
-    // Where a row that has the code of a part stands in it, where its box has more than one dim or the code does not tell all that the part asks. It
-    // is inlined, and what few parts want is not: that is given values alone, so that the view of a row stays out of memory.
+    // Where a row that has the code of a part stands in it. What few parts want is given values alone, so that the view of a row stays out of memory.
     #[inline(always)]
     fn asked_placement(
         &self,

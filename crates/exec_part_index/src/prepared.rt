@@ -13,8 +13,7 @@ use exec_synopsis::{Prepared, prepare};
 use sem_query::{PartPlans, Plan, Query};
 use std::alloc::{AllocError, Global};
 
-/// What the parts of a plan are asked of every row, and for each place of FROM the chains that lead a row to the parts that may
-/// admit it.
+/// What the parts of a plan are asked of every row, and for each place of FROM the chains that lead a row to them.
 #[derive(Drop)]
 pub struct PreparedPlan {
     parts: Vec<Prepared>,

@@ -5,7 +5,7 @@ ghost use Rattle.sem_query.specs.declared.plan.PartPlan.{PartPlan};
 ghost use Rattle.sem_query.specs.Assignment.{compares};
 ghost use Rattle.sem_query.specs.Parts.{pairs, is_within, sign, sign_at};
 ghost use Rattle.sem_query.specs.Admission.{alone, sign_eq, meets_local, keeps_local};
-ghost use Rattle.exec_synopsis.specs.Preparing.{IsPrepared, keeps_pair, keeps_tests};
+ghost use Rattle.exec_synopsis.specs.Preparing.{keeps_pair, keeps_tests};
 ghost use Rattle.exec_part_index.specs.Span.{in_span, IsSpan};
 ghost use Rattle.exec_part_index.specs.PartIndex.{signs_at, code_after, AsksOnly};
 ghost use Rattle.exec_part_index.specs.Prepared.{ArePrepared};
@@ -136,12 +136,9 @@ fn never(place: u8) -> LocalCondition
 fn of_test(place: u8, pair: Option<Pair>, sign: Option<Sign>) -> Option<LocalCondition>
     ensures { (v : ℕ → ℤ) → meets_any v result ≡ keeps_pair place (alone v) pair sign }
 {
-    match pair {
-        Some(pair) => match sign {
-            Some(sign) => of_sign(place, pair, sign),
-            None => Some(never(place)),
-        },
-        None => Some(never(place)),
+    match (pair, sign) {
+        (Some(pair), Some(sign)) => of_sign(place, pair, sign),
+        _ => Some(never(place)),
     }
 }
 
@@ -157,24 +154,8 @@ fn of_condition(place: u8, condition: LocalCondition) -> Option<LocalCondition>
     }
 }
 
-// Adds a condition that the signs of some pairs do not say. An error says that memory was not found.
-#[tactic(auto, using(crate::proofs::RemainingLaws::pushed_all, crate::proofs::RemainingLaws::nothing_more))]
-fn add(
-    list: &mut Vec<LocalCondition>,
-    signed: &Signed<'_>,
-    condition: LocalCondition,
-) -> Result<(), AllocError>
-    requires { length signed.now.signs.now ≡ length signed.now.pairs.now }
-    ensures { OnOk result ((v : ℕ → ℤ) → signs_at v signed.now.pairs.now ≡ signed.now.signs.now → list_all (meets_local (alone v)) list.new.items ≡ (list_all (meets_local (alone v)) list.old.items && meets_local (alone v) condition)) }
-{
-    if is_said(signed, condition) {
-        return Ok(());
-    }
-    list.push(condition)?;
-    Ok(())
-}
-
 // Adds a condition, where there is one, that the signs of some pairs do not say. An error says that memory was not found.
+#[tactic(auto, using(crate::proofs::RemainingLaws::pushed_all, crate::proofs::RemainingLaws::nothing_more))]
 fn ask(
     list: &mut Vec<LocalCondition>,
     signed: &Signed<'_>,
@@ -184,9 +165,10 @@ fn ask(
     ensures { OnOk result ((v : ℕ → ℤ) → signs_at v signed.now.pairs.now ≡ signed.now.signs.now → list_all (meets_local (alone v)) list.new.items ≡ (list_all (meets_local (alone v)) list.old.items && meets_any v condition)) }
 {
     match condition {
-        Some(condition) => add(list, signed, condition),
-        None => Ok(()),
+        Some(condition) if !is_said(signed, condition) => list.push(condition)?,
+        _ => {}
     }
+    Ok(())
 }
 
 // Whether the pair at a place of these has this sign.
@@ -277,25 +259,6 @@ fn asked_beside(
     Ok(list)
 }
 
-// What the code of a row does not tell of a part that shows these signs at these pairs. An error says that memory was not found.
-#[tactic(auto, using(crate::proofs::RemainingLaws::said_or_left))]
-fn remaining_of(
-    alloc: Global,
-    q: &Query,
-    part: &PartPlan,
-    prepared: &Prepared,
-    place: u8,
-    signed: &Signed<'_>,
-) -> Result<Vec<LocalCondition>, AllocError>
-    requires full { length signed.now.signs.now ≡ length signed.now.pairs.now }
-    requires askings { AreAskings (pairs q.now) place signed.now.pairs.now signed.now.askings.now }
-    requires few { length signed.now.pairs.now ≤ 20 }
-    requires prepared { IsPrepared (pairs q.now) part.now prepared.now }
-    ensures { IfOk result (λ list. AsksOnly q.now part.now place signed.now.pairs.now (code_after 0 signed.now.signs.now) list.items) }
-{
-    asked_beside(alloc, q, part, prepared, place, signed)
-}
-
 // The signs that the part of a number shows at the tested pairs.
 fn signed_at<'a>(q: &Query, parts: &PartPlans, place: u8, tested: &'a Tested, i: u32) -> Signed<'a>
     requires inside { i < length parts.now }
@@ -332,7 +295,7 @@ fn remaining_of_part(
 {
     let signed = signed_at(q, parts, place, tested, i);
     let prepared = prepared_of(q, parts, prepared, i);
-    remaining_of(alloc, q, parts.get(i), prepared, place, &signed)
+    asked_beside(alloc, q, parts.get(i), prepared, place, &signed)
 }
 
 // Whether two operators are the same.
@@ -390,8 +353,7 @@ fn append(list: &mut Vec<LocalCondition>, own: &[LocalCondition]) -> Result<Span
     Ok(Span { from, to })
 }
 
-// The span of a part's conditions: none for none, that of the next part of its bucket where this has the same, or else one behind the list. An error says
-// that memory was not found.
+// The span of a part's conditions: none, that of the next part where this has the same, or one behind the list. An error says that memory was not found.
 fn listed(
     list: &mut Vec<LocalCondition>,
     next: Span,
@@ -421,8 +383,7 @@ fn span_of(spans: &[Span], i: u32) -> Span
         .unwrap_or(Span { from: 0, to: 0 })
 }
 
-/// Returns what the code of a row does not tell of each part at a place; a part that is asked the same as the next one of its bucket shares its span. An error says that
-/// memory was not found, or that the conditions are more than 32 bits count.
+/// Returns what the code of a row does not tell of each part at a place. An error says that memory was not found, or that 32 bits do not count the conditions.
 pub fn remaining_at(
     alloc: Global,
     q: &Query,

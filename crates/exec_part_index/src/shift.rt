@@ -1,12 +1,12 @@
 //! Boxes of two parts at one place of FROM that are the same but for where they begin: a row stands at the same place in both.
 ghost use Rattle.std.specs.Prelude.{◌≡◌, ◌+◌, ◌<◌, ◌^◌, length, IfSome, true};
 ghost use Rattle.sem_query.specs.Parts.{pairs};
-ghost use Rattle.sem_query.specs.Plan.{stream_at, dims_at};
 ghost use Rattle.sem_query.specs.Sharing.{same_dim, same_dims};
 ghost use Rattle.exec_synopsis.specs.Preparing.{IsPrepared};
 ghost use Rattle.exec_synopsis.specs.Axes.{IsBoxLayout};
 ghost use Rattle.exec_part_index.specs.Shift.{IsShifted, placed};
 
+use crate::owners::base_at;
 use exec_synopsis::{BoxLayout, Placement, Prepared};
 use sem_query::{Dim, Kind, PartPlan, Query, dims_at, is_same};
 
@@ -83,16 +83,6 @@ fn shift_of(from: u32, to: u32, kind: Kind) -> Option<Shift>
     }
 }
 
-// Where the box of a part begins.
-fn base_at(part: &PartPlan, place: usize) -> u32
-    ensures { result ≡ (stream_at part.now place).base }
-{
-    match part.streams.as_slice().get(place) {
-        Some(stream) => stream.base,
-        None => 0,
-    }
-}
-
 // How many cells later the box of a part begins, by what a row is asked there.
 fn shift_to(part: &PartPlan, other: &PartPlan, listed: &BoxLayout, place: u8) -> Option<Shift>
     requires { IsBoxLayout other.now place listed.now }
@@ -100,14 +90,13 @@ fn shift_to(part: &PartPlan, other: &PartPlan, listed: &BoxLayout, place: u8) ->
 {
     let at = usize::from(place);
     if are_dims(dims_at(part, at), dims_at(other, at)) {
-        shift_of(base_at(part, at), listed.base, listed.kind)
+        shift_of(base_at(part, place), listed.base, listed.kind)
     } else {
         None
     }
 }
 
-/// Returns how many cells later the box of a part begins than that of another, where they have the same dims, and the numbers of their
-/// cells have 32 bits.
+/// Returns how many cells later the box of a part begins than that of another, where both have the same dims and cells of 32 bits.
 pub fn shift_between(
     q: &Query,
     part: &PartPlan,

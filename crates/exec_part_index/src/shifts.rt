@@ -1,5 +1,4 @@
-//! Parts that follow each other in a chain, have the same code and the same remaining conditions, and the same dims at a place of FROM: a row stands
-//! in all of them or in none, and at the same place of their boxes, so that it is tested and placed once.
+//! Parts that follow each other in a chain and ask the same: a row stands at the same place of all of them or in none, and is placed once.
 ghost use Rattle.std.specs.Prelude.{◌≡◌, ◌<◌, true, length, slice_get, slice_index_or, Some, IfSome};
 ghost use Rattle.sem_query.specs.declared.plan.PartPlan.{PartPlan};
 ghost use Rattle.sem_query.specs.Parts.{pairs};

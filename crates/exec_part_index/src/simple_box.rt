@@ -1,12 +1,14 @@
 //! The box of a part at a place of FROM as a row is asked of it, where it has at most two dims.
-ghost use Rattle.std.specs.Prelude.{IfSome};
+ghost use Rattle.std.specs.Prelude.{◌≡◌, [], ◌∷◌, IfSome};
 ghost use Rattle.sem_query.specs.Meaning.{by_column};
+ghost use Rattle.sem_query.specs.Plan.{dims_at};
+ghost use Rattle.sem_query.specs.Admission.{in_range};
 ghost use Rattle.exec_synopsis.specs.Axes.{IsAbove, IsShort, IsBoxLayout};
 ghost use Rattle.exec_part_index.specs.SimpleBox.{IsSimpleBox, IsOneDimBox, IsTwoDimBox, IsInBox, axis_in};
 
 use crate::shift::CellAt;
 use exec_synopsis::{BoxLayout, Placement};
-use sem_query::{Kind, PartPlan, value_at};
+use sem_query::{Dim, Kind, PartPlan, value_at};
 
 /// The range of a dim: its least value, how many values there are, and the column.
 #[derive(Clone, Copy, Debug, PartialEq, Eq, Drop)]
@@ -44,8 +46,8 @@ pub enum SimpleBox {
     OneDim(OneDimBox),
     /// There are two dims.
     TwoDim(TwoDimBox),
-    /// There is no dim, and no cell, as in a query over one stream.
-    Open,
+    /// There is one dim, and no cell, as in a query over one stream.
+    Range(Dim),
 }
 
 impl DimRange {
@@ -113,7 +115,7 @@ impl SimpleBox {
         match self {
             SimpleBox::Cell(cell) => Some(cell.placement()),
             SimpleBox::OneDim(single) => Some(single.placement(part, pos, row)),
-            SimpleBox::Unlisted | SimpleBox::TwoDim(_) | SimpleBox::Open => None,
+            SimpleBox::Unlisted | SimpleBox::TwoDim(_) | SimpleBox::Range(_) => None,
         }
     }
 
@@ -125,9 +127,31 @@ impl SimpleBox {
     {
         match self {
             SimpleBox::TwoDim(double) => Some(double.placement(part, pos, row)),
-            SimpleBox::Open => Some(Placement::Inside),
+            SimpleBox::Range(dim) => Some(placement_in(part, pos, *dim, row)),
             _ => self.placement(part, pos, row),
         }
+    }
+}
+
+// Whether a row lies in the range of a dim.
+fn is_in_range(row: &[i64], dim: Dim) -> bool
+    ensures { result ≡ in_range (by_column row.now) dim }
+{
+    let value = value_at(row, dim.attr.column);
+    !(value < dim.lo) && !(dim.hi < value)
+}
+
+// Where a row stands in a part that has this dim alone and no cell.
+fn placement_in(part: &PartPlan, pos: u8, dim: Dim, row: &[i64]) -> Placement
+    requires { dims_at part.now pos ≡ dim ∷ [] }
+    ensures { IsInBox part.now pos row.now result }
+{
+    // Named for the proof alone: the contract speaks of them.
+    let (_part, _pos) = (part, pos);
+    if is_in_range(row, dim) {
+        Placement::Inside
+    } else {
+        Placement::Outside
     }
 }
 

@@ -1,5 +1,4 @@
-//! Which pairs are tested at a place: those at which each part shows one sign, and which tell parts from each other or say what some part is
-//! asked. At most 20 are, so that a code tells their signs.
+//! Which pairs are tested at a place: at most 20 at which each part shows one sign, and which tell parts apart or say what some part is asked.
 ghost use Rattle.std.specs.Prelude.{◌≡◌, ◌≤◌, [], length, IfOk, IfSome};
 ghost use Rattle.sem_query.specs.Parts.{pairs};
 ghost use Rattle.exec_part_index.specs.Prepared.{ArePrepared};
@@ -59,13 +58,8 @@ fn add_numbered(list: &mut ArrayVec<Test, 254>, q: &Query, place: u8) {
     let pairs = q.pairs().as_slice();
     'pairs: for (i, pair) in pairs.iter().enumerate() {
         if is_within(usize::from(place), *pair) {
-            add(
-                list,
-                Test {
-                    pair: *pair,
-                    number: Some(i as u8),
-                },
-            );
+            let (pair, number) = (*pair, Some(i as u8));
+            add(list, Test { pair, number });
         }
     }
 }
@@ -82,36 +76,17 @@ fn integer_named(condition: LocalCondition, integer: i64) -> Option<i64> {
 // The pair of the sides of a condition, of two columns the earlier one first.
 fn pair_named(condition: LocalCondition) -> Option<Pair> {
     let left = condition.left;
-    match condition.right {
-        Element::Const(integer) => match integer_named(condition, integer) {
-            Some(named) => Some(Pair {
-                left,
-                right: Element::Const(named),
-            }),
-            None => None,
-        },
-        Element::Attr(right) => Some(if is_before(left, right) {
-            Pair {
-                left,
-                right: Element::Attr(right),
-            }
-        } else {
-            Pair {
-                left: right,
-                right: Element::Attr(left),
-            }
-        }),
-    }
+    let (left, right) = match condition.right {
+        Element::Const(integer) => (left, Element::Const(integer_named(condition, integer)?)),
+        Element::Attr(right) if is_before(left, right) => (left, condition.right),
+        Element::Attr(right) => (right, Element::Attr(left)),
+    };
+    Some(Pair { left, right })
 }
 
 // Whether a pair is among some.
 fn has_pair(list: &[Test], pair: Pair) -> bool {
-    'tests: for test in list {
-        if is_same_pair(test.pair, pair) {
-            return true;
-        }
-    }
-    false
+    list.iter().any(|test| is_same_pair(test.pair, pair))
 }
 
 // Adds the pair that a condition names, where it is not among them and a part shows a sign at it.
@@ -122,21 +97,15 @@ fn add_named(
     place: u8,
     condition: LocalCondition,
 ) {
-    if !is_at(place, condition) {
-        return;
+    if let (true, Some(pair)) = (is_at(place, condition), pair_named(condition)) {
+        let test = Test { pair, number: None };
+        if !has_pair(list.as_slice(), pair) && shown_sign(q, first, place, test).is_some() {
+            add(list, test);
+        }
     }
-    let Some(pair) = pair_named(condition) else {
-        return;
-    };
-    let test = Test { pair, number: None };
-    if has_pair(list.as_slice(), pair) || shown_sign(q, first, place, test).is_none() {
-        return;
-    }
-    add(list, test);
 }
 
-// The pairs that may be tested at a place: those of the query, where the first part has a sign for each, and those that conditions of parts
-// name, where the first part shows a sign at them.
+// The pairs that may be tested at a place: those of the query and those that conditions name, where the first part shows signs at them.
 fn candidates_at(q: &Query, parts: &PartPlans, place: u8) -> ArrayVec<Test, 254> {
     let mut list: ArrayVec<Test, 254> = ArrayVec::new();
     if parts.len() == 0 {
@@ -168,9 +137,7 @@ fn shown_by_all(q: &Query, parts: &PartPlans, place: u8, test: Test) -> Option<S
     let mut one: Option<Sign> = None;
     let mut differs = false;
     'parts: for k in 0..parts.len() {
-        let Some(sign) = sign_in(q, parts.get(k), place, test) else {
-            return None;
-        };
+        let sign = sign_in(q, parts.get(k), place, test)?;
         match one {
             Some(other) => differs = differs || !is_same_sign(sign, other),
             None => one = Some(sign),
@@ -180,37 +147,24 @@ fn shown_by_all(q: &Query, parts: &PartPlans, place: u8, test: Test) -> Option<S
     Some(Shown { test, sign })
 }
 
-// Whether one of some pairs says a condition by the one sign that all parts show at it.
-fn is_said(shown: &[Shown], condition: LocalCondition) -> bool {
-    'shown: for one in shown {
-        let said = match one.sign {
-            Some(sign) => says_condition(one.test.pair, sign, condition),
-            None => false,
-        };
-        if said {
-            return true;
-        }
+// Whether a pair says a condition by a sign, where it has one.
+fn is_said(pair: Pair, sign: Option<Sign>, condition: LocalCondition) -> bool {
+    match sign {
+        Some(sign) => says_condition(pair, sign, condition),
+        None => false,
     }
-    false
 }
 
 // Whether a pair says a condition of the stream at a place that those before it do not say.
 fn says_more(prepared: &Prepared, place: u8, before: &[Shown], test: Test, sign: Sign) -> bool {
     'conditions: for condition in prepared.asked() {
-        if is_at(place, *condition)
-            && says_condition(test.pair, sign, *condition)
-            && !is_said(before, *condition)
+        let condition = *condition;
+        if is_at(place, condition)
+            && says_condition(test.pair, sign, condition)
+            && !before
+                .iter()
+                .any(|one| is_said(one.test.pair, one.sign, condition))
         {
-            return true;
-        }
-    }
-    false
-}
-
-// Whether a number is among some.
-fn has_number(numbers: &[u8], i: u8) -> bool {
-    'numbers: for number in numbers {
-        if *number == i {
             return true;
         }
     }
@@ -220,7 +174,7 @@ fn has_number(numbers: &[u8], i: u8) -> bool {
 // Whether a part must be asked for its sign at a pair, or for a condition that this says and those before it do not.
 fn is_asked(prepared: &Prepared, place: u8, before: &[Shown], test: Test, sign: Sign) -> bool {
     match test.number {
-        Some(i) => has_number(prepared.tests(), i),
+        Some(i) => prepared.tests().iter().any(|number| *number == i),
         None => says_more(prepared, place, before, test, sign),
     }
 }
@@ -311,34 +265,19 @@ fn is_condition_said(
     tests: &[Test],
     condition: LocalCondition,
 ) -> bool {
-    if !is_at(place, condition) {
-        return true;
-    }
-    'tests: for test in tests {
-        let said = match sign_in(q, part, place, *test) {
-            Some(sign) => says_condition(test.pair, sign, condition),
-            None => false,
-        };
-        if said {
-            return true;
-        }
-    }
-    false
+    !is_at(place, condition)
+        || tests.iter().any(|test| is_said(test.pair, sign_in(q, part, place, *test), condition))
 }
 
 // Whether the signs of a part at some tests leave nothing to be asked.
 fn is_all_said(q: &Query, part: &PartPlan, prepared: &Prepared, place: u8, tests: &[Test]) -> bool {
-    'numbers: for i in prepared.tests() {
-        if !is_number_tested(q, place, tests, *i) {
-            return false;
-        }
-    }
-    'conditions: for condition in prepared.asked() {
-        if !is_condition_said(q, part, place, tests, *condition) {
-            return false;
-        }
-    }
-    true
+    let (numbers, conditions) = (prepared.tests(), prepared.asked());
+    numbers
+        .iter()
+        .all(|i| is_number_tested(q, place, tests, *i))
+        && conditions
+            .iter()
+            .all(|c| is_condition_said(q, part, place, tests, *c))
 }
 
 // Whether they leave nothing to be asked of any part.

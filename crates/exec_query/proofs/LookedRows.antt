@@ -1,10 +1,11 @@
 -- An executor that looked at cells beside a row, and then took it.
-use Rattle.std.proofs.Common.{◌≡◌, ℕ, ◌+◌, ◌-◌, ◌*◌, ◌/◌, ◌≤◌, nat_eq, cond, Bool, true, false, List, [], length, refl, sym, ◌∙◌, subst, arith, All}
+use Rattle.std.proofs.Common.{◌≡◌, ℕ, ◌+◌, ◌-◌, ◌*◌, ◌/◌, ◌≤◌, ◌<◌, ◌^◌, nat_eq, cond, Bool, true, false, List, [], length, refl, sym, ◌∙◌, subst, arith, All}
 use Rattle.std.proofs.lemmas.List.Elements.{All-contains}
 use Rattle.sem_query.specs.declared.plan.Plan.{Plan}
 use Rattle.sem_query.specs.declared.plan.Plan.TheVariants as plan
 use Rattle.sem_query.specs.Query.{QueryValue}
 use Rattle.sem_query.specs.Meaning.{Arrival}
+use Rattle.sem_query.specs.Domains.{RowKeeps}
 use Rattle.sem_query.specs.Serving.{KeepsStreams}
 use Rattle.sem_query.specs.Combinations.{read_from}
 use Rattle.sem_query.specs.Numbers.{parts_of, work}
@@ -86,6 +87,13 @@ looked-steps e x r pool before looked later look keeps =
       alone = λ filter. k.alone filter ∙ look.alone filter;
       outside = λ no. k.outside no ∙ look.outside no;
     }
+
+-- it is as ready for the row as before, and the row keeps the domains
+pub looked-ready : (e x : ExecutorValue) (pool : PoolValue) (stream : ℕ) (before looked : StepsValue) → HasLooked e pool stream x before looked → IsReady e pool → IsReady x pool
+looked-ready e x pool stream before looked look ready = record { kept = look.kept; few = subst (λ (y : ExecutorValue). y.given < 2 ^ 40) (sym look.same) ready.few }
+
+pub looked-keeps : (e x : ExecutorValue) (pool : PoolValue) (stream : ℕ) (before looked : StepsValue) → HasLooked e pool stream x before looked → (r : Arrival) → RowKeeps e.query r → RowKeeps x.query r
+looked-keeps e x pool stream before looked look r keeps = subst (λ (y : ExecutorValue). RowKeeps y.query r) (sym look.same) keeps
 
 -- where no cell was loaded none is looked at
 pub none-looked : (e : ExecutorValue) (pool : PoolValue) (stream : ℕ) (steps : StepsValue) → IsReady e pool → HasLooked e pool stream e steps steps

@@ -1,6 +1,6 @@
 -- Where the row alone tells what a part answers to it: all that a walk finds is the one tuple, which changes nothing where it
 -- has an entry.
-use Rattle.std.proofs.Common.{◌≡◌, ℕ, zero, suc, ◌+◌, ◌<◌, ◌==◌, ◌&&◌, cond, Bool, true, false, ℤ, List, [], ◌∷◌, map, filter, length, refl, sym, ap, ◌∙◌, subst, arith, inl, inr}
+use Rattle.std.proofs.Common.{◌≡◌, ℕ, zero, suc, ◌+◌, ◌<◌, ◌==◌, cond, Bool, true, false, ℤ, List, [], ◌∷◌, map, filter, length, refl, sym, ap, ◌∙◌, subst, arith, inl, inr}
 use Rattle.std.specs.List.{flat_map, range_with_len}
 use Rattle.sem_query.specs.declared.plan.PartPlan.{PartPlan}
 use Rattle.sem_query.specs.Query.{QueryValue}
@@ -13,7 +13,7 @@ use Rattle.sem_query.specs.Probing.{choices_beside, found_beside}
 use Rattle.sem_query.proofs.Has.{Has, first, later, Has-map_from, Has-filter_from}
 use Rattle.sem_laws.proofs.OnePartFits.{has_cases}
 use Rattle.sem_laws.proofs.Extremes.{flat_map-from}
-use Rattle.sem_laws.proofs.Tests.{and-right, filter-passes}
+use Rattle.sem_laws.proofs.Tests.{filter-passes}
 use Rattle.exec_answer_table.specs.Entries.{Entry, TableValue, with_entries, changed, added, has}
 use Rattle.exec_query.specs.FoundTable.{with_found, with_all}
 use Rattle.exec_point_lookup.specs.Known.{AreKnown}
@@ -72,12 +72,6 @@ all_old t (f ∷ fs) es same h =
     let own : has f.tuple es ≡ true = ap (λ u. has u es) (same f first) ∙ h in
     let step : with_found true f es ≡ es = ap (λ b. cond b es (added f.tuple 1 es)) own in
     ap (with_all true fs) step ∙ all_old t fs es (λ g k. same g (later k)) h
-
-pub none_new : (d wide : Bool) (t : List ℤ) (fs : List Found) (table : TableValue) → d ≡ true → ((f : Found) → Has fs f → f.tuple ≡ t)
-    → true ≡ (wide && has t table.entries) → table ≡ with_entries table (with_all d fs table.entries)
-none_new d wide t fs table e same stands =
-    let old : has t table.entries ≡ true = and-right wide (has t table.entries) (sym stands) in
-    ap (with_entries table) (sym (all_old t fs table.entries same old)) ∙ ap (λ b. with_entries table (with_all b fs table.entries)) (sym e)
 
 -- a tuple that was found has an entry
 pub found_has : (f : Found) (es : List Entry) → has f.tuple (with_found true f es) ≡ true

@@ -24,14 +24,15 @@ use crate::access::{Access, access_of};
 use crate::filter::plain_filter_row;
 use crate::join::Scratch;
 use crate::output::put_waiting;
-use crate::row::{PlanAt, apply_row, meet_by_cells};
-use crate::two_cells::answer_anew;
+use crate::route::{PlanAt, apply_row};
+use crate::two_cells::{meet_cells, take_up_anew};
 use exec_answer_lines::AnswerLines;
 use exec_answer_table::Answers;
 use exec_filter::{Prefilter, prefilter_of};
 use exec_part_index::{PreparedPlan, prepare_all};
 use exec_pool::{Extent, Pool, Steps};
 use exec_query_index::QueryBox;
+use exec_ranges::is_empty;
 use exec_restore::{cell_to_load, fill, put_printed};
 use exec_saturation::{Cursor, LookedAt, Saturation, look_beside_row};
 use io_streams::{Sink, WriteFault};
@@ -162,26 +163,6 @@ impl Executor {
         }
     }
 
-    /// Takes a row of any stream of at most 2^40 rows in all, whose values lie in the domains of the query where it names the stream.
-    /// What waited before is given up. The answers that cells and table tell come to wait, each at most 2^127 times; the cells become
-    /// their merge with the row's own; with DISTINCT the tuples grow by the answers. Where the executor stood for a history, the new
-    /// answers wait, and it then stands for the history with the row; so it does for a base and the rows since, which tell the answers
-    /// that wait. It keeps within the numbers that its plan announces. It reads at most three cells for each unit of announced work and
-    /// one for each part, and writes at most one for each part; a filter, and a query that does not name the stream, read and write none.
-    pub fn row<L: Ledger>(&mut self, pool: &mut Pool, stream: u8, row: &Row, steps: &mut Steps<L>)
-        requires ready { IsReady self.old pool.old }
-        requires keeps { RowKeeps self.old.query (arrival stream row.now.items) }
-        ensures took { TakesRow self.old pool.old (arrival stream row.now.items) self.new pool.new }
-        ensures steps { KeepsToWork self.old (arrival stream row.now.items) steps.old steps.new }
-    {
-        let hint = RowHint {
-            is_within: false,
-            is_alone: true,
-        };
-        // Whether something waits is not asked here.
-        let _waits = self.apply(hint, pool, stream, row, steps);
-    }
-
     // Whether a row is refused, and nothing waits that would have to be given up: it is but counted.
     fn is_skipped(&self, stream: u8, row: &Row) -> bool
         ensures refused { result ≡ true → IsRefused self.now.query self.now.plan (arrival stream row.now.items) }
@@ -193,8 +174,14 @@ impl Executor {
         !waits_in(&self.table)
     }
 
-    /// Takes a row as `row` does. Where it says no, no answer waits; where it says yes, some may. The prefilter is not asked of a row of which
-    /// the caller says that it lies within the query's box; what is said decides on the time alone.
+    /// Takes a row of any stream of at most 2^40 rows in all, whose values lie in the domains of the query where it names the stream.
+    /// What waited before is given up. The answers that cells and table tell come to wait, each at most 2^127 times; the cells become
+    /// their merge with the row's own; with DISTINCT the tuples grow by the answers. Where the executor stood for a history, the new
+    /// answers wait, and it then stands for the history with the row; so it does for a base and the rows since, which tell the answers
+    /// that wait. It keeps within the numbers that its plan announces. It reads at most three cells for each unit of announced work and
+    /// one for each part, and writes at most one for each part; a filter, and a query that does not name the stream, read and write none.
+    /// Where it says no, no answer waits; where it says yes, some may. The prefilter is not asked of a row of which the caller says that it
+    /// lies within the query's box; what is said decides on the time alone.
     #[inline(always)]
     pub fn apply<L: Ledger>(
         &mut self,
@@ -241,23 +228,19 @@ impl Executor {
         let Some(direct) = self.access.lookup_of(stream) else {
             return self.apply_by_plan(is_within, pool, stream, row, steps);
         };
-        self.given += 1;
-        let query = PlanAt {
-            q: &self.query,
-            plan: &self.plan,
-            prepared: &self.prepared,
-            extent: &self.extent,
-            known: false,
+        let Plan::Parts { parts, .. } = &self.plan else {
+            return self.apply_by_plan(is_within, pool, stream, row, steps);
         };
-        let there = meet_by_cells(pool, &query, direct, stream, row, steps);
-        answer_anew(
-            &self.query,
-            direct,
-            row,
-            there,
-            &mut self.scratch.tuple,
-            &mut self.table,
-        )
+        self.given += 1;
+        let (q, extent) = (&self.query, &self.extent);
+        let there = meet_cells(pool, q, extent, parts, direct, row, steps);
+        if is_empty(there) {
+            clear(self.query.distinct(), &mut self.table);
+            return false;
+        }
+        let (tuple, table) = (&mut self.scratch.tuple, &mut self.table);
+        take_up_anew(&self.query, direct, row, there, tuple, table);
+        true
     }
 
     // Takes a row as `apply` does, whatever the query. It is not inlined, and the way to it is laid aside, so that a row of a filter, and one
@@ -283,7 +266,26 @@ impl Executor {
             return false;
         }
         self.look_where_loaded(pool, stream, steps);
-        self.apply_known(pool, stream, row, steps)
+        self.given += 1;
+        clear(self.query.distinct(), &mut self.table);
+        let known = self.saturation.spares(&self.query);
+        let query = PlanAt {
+            q: &self.query,
+            plan: &self.plan,
+            prepared: &self.prepared,
+            extent: &self.extent,
+            known,
+        };
+        apply_row(
+            pool,
+            &query,
+            stream,
+            row,
+            &mut self.scratch,
+            &mut self.table,
+            steps,
+        );
+        waits_in(&self.table)
     }
 
     // Looks at cells as `look_on` does, where it is not known whether all are saturated.
@@ -316,43 +318,6 @@ impl Executor {
         };
         let (room, tuple) = (&mut self.scratch.room, &mut self.scratch.tuple);
         self.saturation = look_beside_row(pool, &all, stream, cursor, room, tuple, steps);
-    }
-
-    // Takes a row by the plan, with what is known of the cells.
-    #[inline(always)]
-    fn apply_known<L: Ledger>(
-        &mut self,
-        pool: &mut Pool,
-        stream: u8,
-        row: &Row,
-        steps: &mut Steps<L>,
-    ) -> bool
-        requires ready { IsReady self.old pool.old }
-        requires keeps { RowKeeps self.old.query (arrival stream row.now.items) }
-        ensures took { TakesRow self.old pool.old (arrival stream row.now.items) self.new pool.new }
-        ensures none { result ≡ false → waiting_in self.new ≡ [] }
-        ensures steps { KeepsToReads self.old (arrival stream row.now.items) steps.old steps.new }
-    {
-        self.given += 1;
-        clear(self.query.distinct(), &mut self.table);
-        let known = self.saturation.spares(&self.query);
-        let query = PlanAt {
-            q: &self.query,
-            plan: &self.plan,
-            prepared: &self.prepared,
-            extent: &self.extent,
-            known,
-        };
-        apply_row(
-            pool,
-            &query,
-            stream,
-            row,
-            &mut self.scratch,
-            &mut self.table,
-            steps,
-        );
-        waits_in(&self.table)
     }
 
     /// Gathers a line for each answer that waits, in ascending order, behind what is gathered, of which some may be written. Where it is said

@@ -21,7 +21,6 @@ mod join;
 pub mod laws;
 mod output;
 mod route;
-mod row;
 mod two_cells;
 
 pub use executor::{Executor, RowHint};

@@ -7,7 +7,7 @@ ghost use Rattle.exec_pool.specs.Extents.{cells_of};
 ghost use Rattle.exec_ranges.specs.Values.{rows_in};
 ghost use Rattle.exec_join.specs.Remaining.{as_found};
 ghost use Rattle.exec_answer_table.specs.Entries.{with_entries, Fits};
-ghost use Rattle.exec_query.specs.Executor.{cleared, spelled};
+ghost use Rattle.exec_query.specs.Executor.{cleared};
 ghost use Rattle.exec_query.specs.FoundTable.{with_found, with_all, HaveRoom};
 ghost use Rattle.exec_query.specs.Reads.{row_reads};
 ghost use Rattle.exec_query.specs.CellSteps.{arrives, all_found, HasTaken, AreReady};
@@ -16,11 +16,10 @@ ghost use Rattle.exec_point_lookup.specs.Direct.{IsDirect};
 
 use crate::executor::clear;
 use crate::join::{MOST_TIMES, record_found};
-use crate::row::PlanAt;
 use exec_answer_table::Answers;
 use exec_point_lookup::{DirectLookup, offset_in, put_selected};
-use exec_pool::{Pool, Steps};
-use exec_ranges::{is_empty, rows_in};
+use exec_pool::{Extent, Pool, Steps};
+use exec_ranges::rows_in;
 use exec_synopsis::{Admitted, Placement, own_cell, put_own};
 use sem_query::{Cell, Kind, PartPlans, Query, Row, Tuple};
 use std::sync::ledger::Ledger;
@@ -37,31 +36,10 @@ fn take_up_once(columns: &[u8], row: &[i64], tuple: &mut Tuple, table: &mut Answ
     record_found(true, tuple, 1, table);
 }
 
-// Takes up what a cell with rows answers to a row. To call it costs more than to inline it.
-#[inline(always)]
-fn take_up(
-    q: &Query,
-    direct: &DirectLookup,
-    row: &Row,
-    cell: Cell,
-    tuple: &mut Tuple,
-    table: &mut Answers,
-)
-    requires width { length (map (by_column row.now.items) direct.now.selected.items) ≡ table.old.width }
-    requires room { Fits (map (by_column row.now.items) direct.now.selected.items) table.old }
-    ensures { table.new ≡ with_entries table.old (with_found q.now.distinct (as_found (map (by_column row.now.items) direct.now.selected.items) (rows_in cell)) table.old.entries) }
-{
-    let (columns, values) = (direct.selected.as_slice(), row.as_slice());
-    if q.distinct() {
-        take_up_once(columns, values, tuple, table);
-    } else {
-        table.add_columns_upto(columns, values, u128::from(rows_in(cell)), MOST_TIMES);
-    }
-}
-
-// Gives up what waited, and takes up what the other cell tells, which has rows. It is not inlined: most rows meet an empty cell.
+/// Gives up what waited, and takes up what the other cell tells of the answers to a row, which has rows. It is not inlined: most rows meet an empty
+/// cell.
 #[inline(never)]
-fn take_up_anew(
+pub fn take_up_anew(
     q: &Query,
     direct: &DirectLookup,
     row: &Row,
@@ -73,30 +51,15 @@ fn take_up_anew(
     requires room { HaveRoom q.now.distinct (told_by direct.now row.now.items cell) (with_entries table.old (cleared q.now.distinct table.old.entries)) }
     ensures { table.new ≡ with_entries table.old (with_all q.now.distinct (told_by direct.now row.now.items cell) (cleared q.now.distinct table.old.entries)) }
 {
-    clear(q.distinct(), table);
-    take_up(q, direct, row, cell, tuple, table);
-}
-
-/// Gives up what waited, takes up what the other cell tells of the answers to a row, and returns whether any may wait.
-#[inline(always)]
-pub fn answer_anew(
-    q: &Query,
-    direct: &DirectLookup,
-    row: &Row,
-    cell: Cell,
-    tuple: &mut Tuple,
-    table: &mut Answers,
-) -> bool
-    requires { HaveRoom q.now.distinct (told_by direct.now row.now.items cell) (with_entries table.old (cleared q.now.distinct table.old.entries)) }
-    ensures table { table.new ≡ with_entries table.old (with_all q.now.distinct (told_by direct.now row.now.items cell) (cleared q.now.distinct table.old.entries)) }
-    ensures none { result ≡ false → spelled table.new.entries ≡ [] }
-{
-    if is_empty(cell) {
-        clear(q.distinct(), table);
-        return false;
+    let is_once = q.distinct();
+    clear(is_once, table);
+    let columns = direct.selected.as_slice();
+    let values = row.as_slice();
+    if is_once {
+        take_up_once(columns, values, tuple, table);
+    } else {
+        table.add_columns_upto(columns, values, u128::from(rows_in(cell)), MOST_TIMES);
     }
-    take_up_anew(q, direct, row, cell, tuple, table);
-    true
 }
 
 /// Takes a row of a stream of FROM into its own cell, where the only part of a query admits it, and returns what the other cell holds, which
@@ -104,20 +67,20 @@ pub fn answer_anew(
 #[inline(always)]
 pub fn meet_cells<L: Ledger>(
     pool: &mut Pool,
-    query: &PlanAt<'_>,
+    q: &Query,
+    extent: &Extent,
     parts: &PartPlans,
     direct: &DirectLookup,
     row: &Row,
     steps: &mut Steps<L>,
 ) -> Cell
-    requires direct { IsDirect query.now.q.now parts.now direct.now }
-    requires ready { AreReady query.now.q.now parts.now pool.old query.now.extent.now }
-    ensures answers { all_found query.now.q.now parts.now (read_from (cells_of pool.old query.now.extent.now)) (arrives query.now.q.now direct.now.pos row.now.items) ≡ told_by direct.now row.now.items result }
-    ensures pool { HasTaken query.now.q.now parts.now query.now.extent.now (arrives query.now.q.now direct.now.pos row.now.items) (length parts.now) pool.old pool.new }
+    requires direct { IsDirect q.now parts.now direct.now }
+    requires ready { AreReady q.now parts.now pool.old extent.now }
+    ensures answers { all_found q.now parts.now (read_from (cells_of pool.old extent.now)) (arrives q.now direct.now.pos row.now.items) ≡ told_by direct.now row.now.items result }
+    ensures pool { HasTaken q.now parts.now extent.now (arrives q.now direct.now.pos row.now.items) (length parts.now) pool.old pool.new }
     ensures reads { steps.new.reads ≤ steps.old.reads + row_reads parts.now + length parts.now }
     ensures writes { steps.new.writes ≤ steps.old.writes + length parts.now }
 {
-    let (q, extent) = (query.q, query.extent);
     let plan = parts.get(0);
     let values = row.as_slice();
     let Some(offset) = offset_in(direct.range, values) else {

@@ -140,16 +140,6 @@ impl Concerned {
         self.listings = [Listing::Unlisted; 256];
     }
 
-    // Whether the candidates of a stream are listed.
-    #[inline(always)]
-    fn is_listed(&self, stream: u8) -> bool
-        requires { length self.now.listings ≡ 256 }
-        ensures listed { IsTrue result → slice_index_or self.now.listings stream listing.Unlisted ≢ listing.Unlisted }
-        ensures other { IsFalse result → slice_index_or self.now.listings stream listing.Unlisted ≡ listing.Unlisted }
-    {
-        self.listings[usize::from(stream)].is_listed()
-    }
-
     /// Returns whether each live query is known to refuse each row of a stream.
     #[inline(always)]
     pub fn spares(&self, stream: u8) -> bool
@@ -209,7 +199,7 @@ impl Concerned {
         ensures told { IsTold self.new live.now }
         ensures may { MayConcern result.word (arrival stream row.now.items) live.now }
     {
-        if self.is_listed(stream) {
+        if self.listings[usize::from(stream)].is_listed() {
             return self.of_listed(stream, row, live);
         }
         self.of_unlisted(stream, row, live)

@@ -38,7 +38,7 @@ fn take_next<L: Ledger>(
     ensures reads { steps.new.reads ≤ steps.old.reads + plan_reads runner.old.executor.plan }
     ensures writes { steps.new.writes ≤ steps.old.writes + plan_writes runner.old.executor.plan }
 {
-    runner.catch_up(rows);
+    runner.executor.pass(runner.before + rows);
     let waits = runner.executor.apply(hint, pool, stream, row, steps);
     // Read for the proof alone: the call tells what is true of what runs the query.
     let _sound = runner.executor.plan();
@@ -117,38 +117,6 @@ pub(crate) fn only_bit(word: u64) -> Option<usize>
     Some(place)
 }
 
-// Gives a row to the live query at a place, the only one that a word has, and counts it for all others.
-#[inline(always)]
-fn apply_to_only<L: Ledger>(
-    pool: &mut Pool,
-    live: &mut Queries,
-    asked: Concerns,
-    place: usize,
-    stream: u8,
-    row: &Row,
-    steps: &mut Steps<L>,
-) -> u64
-    requires only { IsOnlyBit asked.word place }
-    requires sound { IsSound pool.old live.old }
-    requires few { All (λ l. l.executor.given < 2 ^ 40) live.old }
-    requires keeps { KeepsToEach live.old (arrival stream row.now.items) }
-    requires spared { AreSpared asked.word (arrival stream row.now.items) live.old }
-    ensures taken { TookFirst (arrival stream row.now.items) (length live.old) pool.old pool.new live.old live.new }
-    ensures waiting { AreQuiet result live.new }
-    ensures reads { steps.new.reads ≤ steps.old.reads + most_reads live.old }
-    ensures writes { steps.new.writes ≤ steps.old.writes + most_writes live.old }
-{
-    let rows = live.rows;
-    live.rows = one_more(rows);
-    let runners = live.runners.as_mut_slice();
-    let hint = RowHint {
-        is_within: asked.word & asked.within != 0,
-        is_alone: true,
-    };
-    let waits = take_next(pool, &mut runners[place], hint, rows, stream, row, steps);
-    kept_where(waits, asked.word)
-}
-
 /// Gives a row, whose values lie in the domains of each live query that names its stream, to the live queries that a word has, in order of
 /// creation, and counts it for all others, which it does not concern. Of those that are told answers may wait then.
 #[inline(always)]
@@ -173,8 +141,16 @@ pub fn apply_to_all<L: Ledger>(
         live.rows = one_more(live.rows);
         return 0;
     }
-    match only_bit(asked.word) {
-        Some(place) => apply_to_only(pool, live, asked, place, stream, row, steps),
-        None => apply_to_each(pool, live, asked, stream, row, steps),
-    }
+    let Some(place) = only_bit(asked.word) else {
+        return apply_to_each(pool, live, asked, stream, row, steps);
+    };
+    let rows = live.rows;
+    live.rows = one_more(rows);
+    let runners = live.runners.as_mut_slice();
+    let hint = RowHint {
+        is_within: asked.word & asked.within != 0,
+        is_alone: true,
+    };
+    let waits = take_next(pool, &mut runners[place], hint, rows, stream, row, steps);
+    kept_where(waits, asked.word)
 }

@@ -35,7 +35,7 @@ fn put_next<O: Sink>(
     ensures wrote { WroteOne (named name.now (run_to rows runner.old)) (named name.now (run_to rows runner.new)) }
     ensures counted { IsCounted rows runner.new }
 {
-    runner.catch_up(rows);
+    runner.executor.pass(runner.before + rows);
     match gathered {
         Ok(()) => runner.executor.emit(is_alone, name, lines, out),
         Err(fault) => {

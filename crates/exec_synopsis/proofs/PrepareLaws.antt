@@ -39,29 +39,6 @@ module _ {X : Type 0} where
 pub pushed-length : {X : Type 0} (xs : List X) (x : X) (ys : List X) (n : ℕ) → ys ≡ xs ++ x ∷ [] → length xs ≡ n → length ys ≡ n + 1
 pushed-length xs x ys n e f = let a = ap length e in let b = length-append xs (x ∷ []) in omega (arith, a, b, f)
 
--- a row in the ranges of the dims is admitted exactly where it has the signs of the tests and meets the conditions that must be asked
-pub admits-tests : (q : QueryValue) (part : PartPlan) (tests : List ℕ) (asked : List LocalCondition) → AreTests (pairs q) part tests → AreAsked part asked
-    → (place : ℕ) (v : ℕ → ℤ)
-    → (list_all (in_range v) (dims_at part place) && (keeps_tests place (alone v) (pairs q) part.signs.items tests && keeps_local place (alone v) asked))
-    ≡ admits q part place v
-admits-tests q part tests asked are else place v = by (list_all (in_range v) (dims_at part place)) refl
-  where
-    turned : (s : Bool) → s ≡ (s && true)
-    turned true = refl
-    turned false = refl
-
-    none : (s : Bool) → false ≡ (s && false)
-    none true = refl
-    none false = refl
-
-    by : (t : Bool) → list_all (in_range v) (dims_at part place) ≡ t
-        → (t && (keeps_tests place (alone v) (pairs q) part.signs.items tests && keeps_local place (alone v) asked))
-        ≡ ((keeps_signs place (alone v) (pairs q) part.signs.items && keeps_local place (alone v) part.local) && t)
-    by true e =
-        (λ k. sym (are place v e) k && sym (else place v e) k)
-        ∙ turned (keeps_signs place (alone v) (pairs q) part.signs.items && keeps_local place (alone v) part.local)
-    by false e = none (keeps_signs place (alone v) (pairs q) part.signs.items && keeps_local place (alone v) part.local)
-
 and-apart : (a b c : Bool) → (a && (b && c)) ≡ ((a && b) && c)
 and-apart true b c = refl
 and-apart false b c = refl

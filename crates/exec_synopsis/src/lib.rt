@@ -18,7 +18,7 @@ mod own;
 mod prepared;
 
 pub use accesses::{PlaceAccess, is_scan, may_look_up};
-pub use admission::{admits, lies_inside, placement_by_ranges, placement_of, stream_at};
+pub use admission::{placement_by_ranges, stream_at};
 pub use axes::{BoxLayout, Placement};
 pub use cells::offset;
 pub use join_lookup::JoinLookup;

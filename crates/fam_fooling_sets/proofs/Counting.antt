@@ -1,5 +1,5 @@
 -- Where mixed assignments fail on one side, the numbers of answers tell any two sets apart.
-use Rattle.std.proofs.Common.{◌≡◌, ◌≢◌, ℕ, zero, suc, ◌+◌, ◌*◌, ◌<◌, ◌≤◌, ◌⊎◌, inl, inr, nat_eq, List, [], ◌∷◌, ◌++◌, map, filter, length, cond, Bool, true, false, refl, sym, ap, ◌∙◌, arith, ℤ, slice_index_or, Contains}
+use Rattle.std.proofs.Common.{◌≡◌, ◌≢◌, ℕ, zero, suc, ◌+◌, ◌*◌, ◌<◌, ◌≤◌, ◌⊎◌, inl, inr, nat_eq, List, [], ◌∷◌, ◌++◌, map, filter, length, cond, Bool, true, false, refl, sym, ap, ◌∙◌, subst, arith, ℤ, slice_index_or, Contains}
 use Rattle.std.proofs.lemmas.List.{length-map}
 use Rattle.sem_query.specs.declared.atom.Attr.{Attr}
 use Rattle.sem_query.specs.Query.{QueryValue, attrs_of, IsWithinLimits}
@@ -28,12 +28,41 @@ weigh-none t n k (b ∷ bs) l h =
     let i : bit b * t k ≡ bit b * 0 = ap (λ n. bit b * n) e in
     omega (arith, f, i)
 
-weigh-same : (t u : ℕ → ℕ) (n k : ℕ) (bs : List Bool) → k + length bs ≤ n → ((j : ℕ) → j < n → t j ≡ u j) → weigh t k bs ≡ weigh u k bs
+weigh-same : (t u : ℕ → ℕ) (n k : ℕ) (bs : List Bool) → k + length bs ≤ n → ((j : ℕ) → k ≤ j → j < n → t j ≡ u j) → weigh t k bs ≡ weigh u k bs
 weigh-same t u n k [] l h = refl
 weigh-same t u n k (b ∷ bs) l h =
-    let e : bit b * t k ≡ bit b * u k = ap (λ n. bit b * n) (h k (omega (arith, l))) in
-    let f : weigh t (suc k) bs ≡ weigh u (suc k) bs = weigh-same t u n (suc k) bs (omega (arith, l)) h in
+    let e : bit b * t k ≡ bit b * u k = ap (λ n. bit b * n) (h k (omega arith) (omega (arith, l))) in
+    let f : weigh t (suc k) bs ≡ weigh u (suc k) bs = weigh-same t u n (suc k) bs (omega (arith, l)) (λ j m. h j (omega (arith, m))) in
     omega (arith, e, f)
+
+-- how many places are marked
+abbrev pub marks : ℕ → List Bool → ℕ
+marks k bs = weigh (λ j. 1) k bs
+
+-- where all weigh 1 but one of no weight, its mark is missing from the sum
+weigh-but : (t : ℕ → ℕ) (n k i : ℕ) (bs : List Bool) → k + length bs ≤ n → i < length bs → t (k + i) ≡ 0 → ((j : ℕ) → k ≤ j → j < n → j ≢ k + i → t j ≡ 1)
+    → weigh t k bs + bit (slice_index_or bs i false) ≡ marks k bs
+weigh-but t n k i [] l m z h = absurd (omega (arith, m))
+weigh-but t n k zero (b ∷ bs) l m z h =
+    let e : t k ≡ 0 = (let o : k + 0 ≡ k = omega arith in subst (λ x. t x ≡ 0) o z) in
+    let f : weigh t (suc k) bs ≡ marks (suc k) bs = weigh-same t (λ j. 1) n (suc k) bs (omega (arith, l)) (λ j o p. h j (omega (arith, o)) p (λ w. too-far j k o w)) in
+    let g : bit b * t k ≡ bit b * 0 = ap (λ x. bit b * x) e in
+    omega (arith, f, g)
+  where
+    too-far : (j k : ℕ) → suc k ≤ j → j ≡ k + 0 → ⊥
+    too-far j k o w = omega (arith, o, w)
+weigh-but t n k (suc i) (b ∷ bs) l m z h =
+    let e : t k ≡ 1 = h k (omega arith) (omega (arith, l)) (λ w. too-near k i w) in
+    let f : weigh t (suc k) bs + bit (slice_index_or bs i false) ≡ marks (suc k) bs
+    = weigh-but t n (suc k) i bs (omega (arith, l)) (omega (arith, m)) (let o : k + suc i ≡ suc k + i = omega arith in subst (λ x. t x ≡ 0) o z) (λ j o p w. h j (omega (arith, o)) p (λ v. w (moved j k i v))) in
+    let g : bit b * t k ≡ bit b * 1 = ap (λ x. bit b * x) e in
+    omega (arith, f, g)
+  where
+    too-near : (k i : ℕ) → k ≡ k + suc i → ⊥
+    too-near k i w = omega (arith, w)
+
+    moved : (j k i : ℕ) → j ≡ k + suc i → j ≡ suc k + i
+    moved j k i w = omega (arith, w)
 
 -- a sum in which two sets differ; t j i is what number j adds to the sum of number i
 pub record Apart (t : ℕ → ℕ → ℕ) (k : ℕ) (xs ys : List Bool) : Type 0 where
@@ -47,6 +76,96 @@ one-more b t x y e = omega (arith, e)
 
 both : (x : Bool) {xs ys : List Bool} → xs ≡ ys → (x ∷ xs) ≡ (x ∷ ys)
 both x e = cc
+
+one-zero : (x y : ℕ) → x ≡ 1 → y ≡ 0 → x ≡ y → ⊥
+one-zero x y e f o = omega (arith, e, f, o)
+
+-- a place at which the marks differ
+pub record DifferAt (xs ys : List Bool) : Type 0 where
+  pub place : ℕ
+  pub below : place < length xs
+  pub differ : bit (slice_index_or xs place false) ≢ bit (slice_index_or ys place false)
+
+differ-at : (xs ys : List Bool) → length xs ≡ length ys → (xs ≡ ys) ⊎ DifferAt xs ys
+differ-at [] [] l = inl refl
+differ-at [] (y ∷ ys) l = absurd (omega (arith, l))
+differ-at (x ∷ xs) [] l = absurd (omega (arith, l))
+differ-at (x ∷ xs) (y ∷ ys) l = by x y (differ-at xs ys (omega (arith, l)))
+  where
+    by : (x y : Bool) → (xs ≡ ys) ⊎ DifferAt xs ys → ((x ∷ xs) ≡ (y ∷ ys)) ⊎ DifferAt (x ∷ xs) (y ∷ ys)
+    by x y (inr d) = inr record { place = suc d.place; below = (let b = d.below in omega (arith, b)); differ = d.differ }
+    by true true (inl e) = inl (both true e)
+    by false false (inl e) = inl (both false e)
+    by true false (inl e) = inr record { place = 0; below = omega arith; differ = λ o. one-zero (bit true) (bit false) refl refl o }
+    by false true (inl e) = inr record { place = 0; below = omega arith; differ = λ o. one-zero (bit true) (bit false) refl refl (sym o) }
+
+-- where each number but the next adds 1 to a sum
+module _ (t : ℕ → ℕ → ℕ) (n : ℕ) (next : (i : ℕ) → suc i < n → t (suc i) i ≡ 0) (other : (i j : ℕ) → i < n → j < n → j ≢ suc i → t j i ≡ 1) where
+  -- the last number counts all
+  last : (m : ℕ) (bs : List Bool) → n ≡ suc m → length bs ≡ n → weigh (λ j. t j m) 0 bs ≡ marks 0 bs
+  last m bs e l = weigh-same (λ j. t j m) (λ j. 1) n 0 bs (omega (arith, l)) (λ j o p. other m j (omega (arith, e)) p (λ w. beyond n m j e p w))
+    where
+      beyond : (n m j : ℕ) → n ≡ suc m → j < n → j ≡ suc m → ⊥
+      beyond n m j e p w = omega (arith, e, p, w)
+
+  -- each other one all but the next
+  but-next : (i : ℕ) (bs : List Bool) → suc i < n → length bs ≡ n → weigh (λ j. t j i) 0 bs + bit (slice_index_or bs (suc i) false) ≡ marks 0 bs
+  but-next i bs m l =
+      let o : 0 + suc i ≡ suc i = omega arith in
+      weigh-but (λ j. t j i) n 0 (suc i) bs (omega (arith, l)) (omega (arith, m, l)) (subst (λ x. t x i ≡ 0) (sym o) (next i m)) (λ j p r w. other i j (omega (arith, m)) r (λ v. w (v ∙ sym o)))
+
+  -- sets of different sizes, by the last number
+  sizes-apart : (xs ys : List Bool) → length xs ≡ n → length ys ≡ n → 0 < n → marks 0 xs ≢ marks 0 ys → Apart t 0 xs ys
+  sizes-apart xs ys l r some d = by n refl
+    where
+      by : (m : ℕ) → n ≡ m → Apart t 0 xs ys
+      by zero e = absurd (none n some e)
+        where
+          none : (n : ℕ) → 0 < n → n ≡ 0 → ⊥
+          none n s e = omega (arith, s, e)
+      by (suc m) e = record {
+        number = m;
+        from = omega arith;
+        below = omega (arith, e, l);
+        differ = λ o. d (sym (last m xs e l) ∙ o ∙ last m ys e r);
+      }
+
+  bits-same : (a b x y m : ℕ) → a + x ≡ m → b + y ≡ m → a ≡ b → x ≡ y
+  bits-same a b x y m e f g = omega (arith, e, f, g)
+
+  first-same : (b c x y : ℕ) → b * 1 + x ≡ c * 1 + y → x ≡ y → b ≡ c
+  first-same b c x y e f = omega (arith, e, f)
+
+  same-or-not : (x y : ℕ) → (x ≡ y) ⊎ (x ≢ y)
+  same-or-not x y = grind arith
+
+  pub told-next : (xs ys : List Bool) → length xs ≡ n → length ys ≡ n → (xs ≡ ys) ⊎ Apart t 0 xs ys
+  told-next [] [] l r = inl refl
+  told-next [] (y ∷ ys) l r = absurd (omega (arith, l, r))
+  told-next (x ∷ xs) [] l r = absurd (omega (arith, l, r))
+  told-next (x ∷ xs) (y ∷ ys) l r = elim (same-or-not (marks 0 (x ∷ xs)) (marks 0 (y ∷ ys))) [
+    | inr d ↦ inr (sizes-apart (x ∷ xs) (y ∷ ys) l r (omega (arith, l)) d)
+    | inl same ↦ elim (differ-at xs ys (omega (arith, l, r))) [
+      | inr d ↦ inr (rest-apart same d)
+      | inl e ↦ inl (all-same x y same e)
+    ]
+  ]
+    where
+      rest-apart : marks 0 (x ∷ xs) ≡ marks 0 (y ∷ ys) → DifferAt xs ys → Apart t 0 (x ∷ xs) (y ∷ ys)
+      rest-apart same d =
+          let m : suc d.place < n = (let b = d.below in omega (arith, b, l)) in
+          record {
+            number = d.place;
+            from = omega arith;
+            below = (let b = d.below in omega (arith, b));
+            differ = λ o. d.differ (bits-same _ _ _ _ (marks 0 (y ∷ ys)) (but-next d.place (x ∷ xs) m l ∙ same) (but-next d.place (y ∷ ys) m r) o);
+          }
+
+      all-same : (x y : Bool) → marks 0 (x ∷ xs) ≡ marks 0 (y ∷ ys) → xs ≡ ys → (x ∷ xs) ≡ (y ∷ ys)
+      all-same true true s e = both true e
+      all-same false false s e = both false e
+      all-same true false s e = absurd (one-zero 1 0 refl refl (first-same 1 0 (marks 1 xs) (marks 1 ys) s (ap (marks 1) e)))
+      all-same false true s e = absurd (one-zero 1 0 refl refl (sym (first-same 0 1 (marks 1 xs) (marks 1 ys) s (ap (marks 1) e))))
 
 module _ (t : ℕ → ℕ → ℕ) (n : ℕ) (one : (i : ℕ) → i < n → t i i ≡ 1) where
   -- of the same first mark: what is told of the others
@@ -247,6 +366,11 @@ module _ (q : QueryValue) (within : IsWithinLimits q) (several : 1 < length q.fr
           ap bit (false_if (holds q (assignment_of (C (row_at f j)))) (λ h.
           lacks (holds-same q (assignment_of (C (row_at f j))) (mixture a.stream (made.at j) (made.at i)) (λ b k. reads j l b (inl (Contains-from_has (attrs_of q.atoms) b k))) h)))
 
+      -- and each number of which it does
+      pub adds-one : (j : ℕ) → j < n → Holds q (mixture a.stream (made.at j) (made.at i)) → adds j ≡ 1
+      adds-one j l holds-there =
+          ap bit (holds-same q (mixture a.stream (made.at j) (made.at i)) (assignment_of (C (row_at f j))) (λ b k. sym (reads j l b (inl (Contains-from_has (attrs_of q.atoms) b k)))) holds-there)
+
       pub counted : (marks : List Bool) → length marks ≡ n → length (answers q (history_of f marks ++ asking_at f i)) ≡ weigh adds 0 marks
       counted marks long =
           length-map (filter (λ c. holds q (assignment_of c)) (product lists)) (λ c. projected q (assignment_of c))
@@ -279,7 +403,7 @@ module _ (q : QueryValue) (within : IsWithinLimits q) (several : 1 < length q.fr
               differs : (x y : ℕ) → x ≡ y → nat_eq x y ≡ false → ⊥
               differs x y o e = grind (arith, o, e)
 
-  -- where the later numbers add nothing, or the earlier ones, any two sets are told apart
+  -- where the later numbers add nothing, or the earlier ones, or the next ones alone, any two sets are told apart
   abbrev pub table : ℕ → ℕ → ℕ
   table j i = adds i j
 
@@ -301,3 +425,7 @@ module _ (q : QueryValue) (within : IsWithinLimits q) (several : 1 < length q.fr
 
   pub told-earlier : ((i j : ℕ) → j < i → i < n → adds i j ≡ 0) → (left right : List Bool) → length left ≡ n → length right ≡ n → left ≢ right → AreToldApart q n f left right
   told-earlier down = told-if (λ left right l r. told-down table n (λ i m. adds-itself i m) down 0 left right (l ∙ sym r) (omega (arith, l)))
+
+  pub told-as-next : ((i : ℕ) → suc i < n → adds i (suc i) ≡ 0) → ((i j : ℕ) → i < n → j < n → j ≢ suc i → adds i j ≡ 1)
+      → (left right : List Bool) → length left ≡ n → length right ≡ n → left ≢ right → AreToldApart q n f left right
+  told-as-next next other = told-if (λ left right l r. told-next table n next other left right l r)

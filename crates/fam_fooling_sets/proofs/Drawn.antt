@@ -18,8 +18,8 @@ use Rattle.plan_constraints.proofs.NodeFacts.{node_there, node_has, place_below}
 use Rattle.plan_constraints.proofs.OfDomains.{node_within}
 use Rattle.plan_closure.specs.Answers.{at_nodes}
 use Rattle.fam_motions.specs.Values.{valued, KeepsTo, IsSolution}
-use Rattle.fam_motions.specs.Apart.{values_at, assigned, AreSolutions, mixture, Differ, LaterMixesFail, EarlierMixesFail, both, later, earlier}
-use Rattle.fam_motions.specs.Found.{AreApart, AreApartOnce, AreDifferent}
+use Rattle.fam_motions.specs.Apart.{values_at, assigned, AreSolutions, mixture, Differ, LaterMixesFail, EarlierMixesFail, OnlyNextMixesFail, both, later, earlier, next}
+use Rattle.fam_motions.specs.Found.{AreApart, AreApartOnce, AreApartAsNext, AreDifferent}
 use Rattle.fam_fooling_sets.specs.declared.ground.Ground.{Ground}
 use Rattle.fam_fooling_sets.specs.Blanks.{IsRead, AreBlanks}
 use Rattle.fam_fooling_sets.specs.Family.{FamilyValue}
@@ -125,16 +125,23 @@ module _ (q : QueryValue) (within : IsWithinLimits q) (a : Attr) (g : Ground) (a
   }
 
 module _ (q : QueryValue) (a : Attr) (blanks : List (List ℤ)) (all : List (Items ℤ)) (f : FamilyValue) (is : IsDrawnFamily q a blanks all f) where
+  agree : {x y u w : ℤ} (t : Bool) → x ≡ u → y ≡ w → cond t x y ≡ cond t u w
+  agree true e o = e
+  agree false e o = o
+
   -- mixtures of its assignments satisfy the query where those of the values do
   mixed-same : (j i : ℕ) → j < length all → i < length all → Holds q (mixture a.stream (is.made.at j) (is.made.at i)) → Holds q (mixture a.stream (assigned q all j) (assigned q all i))
   mixed-same j i l m =
       holds-same q (mixture a.stream (is.made.at j) (is.made.at i)) (mixture a.stream (assigned q all j) (assigned q all i)) (λ b h.
       let c : Contains (attrs_of q.atoms) b = Contains-from_has (attrs_of q.atoms) b h in
-      by (nat_eq b.stream a.stream) (is.agrees j l b c) (is.agrees i m b c))
-    where
-      by : {x y u w : ℤ} (t : Bool) → x ≡ u → y ≡ w → cond t x y ≡ cond t u w
-      by true e o = e
-      by false e o = o
+      agree (nat_eq b.stream a.stream) (is.agrees j l b c) (is.agrees i m b c))
+
+  -- and the other way round
+  mixed-back : (j i : ℕ) → j < length all → i < length all → Holds q (mixture a.stream (assigned q all j) (assigned q all i)) → Holds q (mixture a.stream (is.made.at j) (is.made.at i))
+  mixed-back j i l m =
+      holds-same q (mixture a.stream (assigned q all j) (assigned q all i)) (mixture a.stream (is.made.at j) (is.made.at i)) (λ b h.
+      let c : Contains (attrs_of q.atoms) b = Contains-from_has (attrs_of q.atoms) b h in
+      agree (nat_eq b.stream a.stream) (sym (is.agrees j l b c)) (sym (is.agrees i m b c)))
 
   earlier-one : (i j n : ℕ) → i < j → j < n → i < n
   earlier-one i j n l m = omega (arith, l, m)
@@ -144,6 +151,12 @@ module _ (q : QueryValue) (a : Attr) (blanks : List (List ℤ)) (all : List (Ite
 
   earlier-fail : EarlierMixesFail q a.stream (length all) (assigned q all) → EarlierMixesFail q a.stream (length all) is.made.at
   earlier-fail fail i j l m h = fail i j l m (mixed-same i j (earlier-one i j (length all) l m) m h)
+
+  next-fail : OnlyNextMixesFail q a.stream (length all) (assigned q all) → OnlyNextMixesFail q a.stream (length all) is.made.at
+  next-fail only i j l m = record {
+    fails = λ e h. (only i j l m).fails e (mixed-same j i m l h);
+    holds = λ o. mixed-back j i m l ((only i j l m).holds o);
+  }
 
   in-from : Contains (attrs_of q.atoms) a → a.stream < length q.from
   in-from c = (query_within q is.within).atoms a c
@@ -168,6 +181,13 @@ module _ (q : QueryValue) (a : Attr) (blanks : List (List ℤ)) (all : List (Ite
   kept-apart-once n plain several c once = subst (λ (m : ℕ). IsFamilyLike q blanks C3 a m f) once.solutions.many record {
     read = inl c;
     family = apart-tell q a (length all) f is.within several (in-from c) is.stream is.size is.many is.asks is.made (elim once.apart [ inl l ↦ later plain (later-fail l) | inr e ↦ earlier plain (earlier-fail e) ]);
+    like = is.like;
+  }
+
+  pub kept-apart-as-next : (n : ℕ) → IsFalse q.distinct → 1 < length q.from → Contains (attrs_of q.atoms) a → AreApartAsNext q a.stream n all → IsFamilyLike q blanks C3 a n f
+  kept-apart-as-next n plain several c found = subst (λ (m : ℕ). IsFamilyLike q blanks C3 a m f) found.solutions.many record {
+    read = inl c;
+    family = apart-tell q a (length all) f is.within several (in-from c) is.stream is.size is.many is.asks is.made (next plain (next-fail found.next));
     like = is.like;
   }
 

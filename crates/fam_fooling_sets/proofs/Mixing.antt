@@ -1,5 +1,5 @@
 -- Assignments that satisfy the query, and of which no mixtures do, make a family.
-use Rattle.std.proofs.Common.{◌≡◌, ℕ, ◌<◌, ◌⊎◌, inl, inr, nat_eq, not, ◌&&◌, Bool, true, false, refl, ap, ◌∙◌, arith, List, ◌++◌, length, ℤ, slice_index_or, Contains}
+use Rattle.std.proofs.Common.{◌≡◌, ℕ, suc, ◌<◌, ◌⊎◌, inl, inr, nat_eq, not, ◌&&◌, Bool, true, false, refl, ap, ◌∙◌, arith, List, ◌++◌, length, ℤ, slice_index_or, Contains}
 use Rattle.std.proofs.lemmas.Bool.Decides.{nat_tests}
 use Rattle.sem_query.specs.declared.atom.Attr.{Attr}
 use Rattle.sem_query.specs.declared.condition.Condition.TheVariants.{C1, C2, C3}
@@ -8,18 +8,21 @@ use Rattle.sem_query.specs.Assignment.{projected, Holds}
 use Rattle.sem_query.specs.Meaning.{assignment_of, answers}
 use Rattle.sem_query.proofs.Has.{Contains-from_has}
 use Rattle.fam_fooling_sets.specs.Family.{FamilyValue, history_of, asking_at, Shows, some, any, Tells, each, counts, Asks}
-use Rattle.fam_motions.specs.Apart.{mixture, LaterMixesFail, EarlierMixesFail, StayApart, both, later, earlier}
+use Rattle.fam_motions.specs.Apart.{mixture, LaterMixesFail, EarlierMixesFail, StayApart, both, later, earlier, next}
 use Rattle.fam_fooling_sets.specs.Making.{HasSolutions}
 use Rattle.fam_fooling_sets.specs.Laws.{DifferentValuesTell, ApartTell, ApartTellEqual}
 use Rattle.fam_fooling_sets.proofs.Telling.{own_combination, own-answer, mixed, holds-same, tells-value}
 use Rattle.fam_fooling_sets.proofs.TellingAlone.{tells-alone}
-use Rattle.fam_fooling_sets.proofs.Counting.{adds-nothing, told-later, told-earlier}
+use Rattle.fam_fooling_sets.proofs.Counting.{adds-nothing, adds-one, told-later, told-earlier, told-as-next}
 
 sooner : (x y : ℕ) → (x < y) ⊎ ((y < x) ⊎ (x ≡ y))
 sooner x y = grind arith
 
 before : (i j n : ℕ) → i < j → j < n → i < n
 before i j n l m = omega (arith, l, m)
+
+shorter : (i n : ℕ) → suc i < n → i < n
+shorter i n l = omega (arith, l)
 
 pub different-values-tell : DifferentValuesTell
 different-values-tell q a n f within counted there chosen stream size many asks made differ = record {
@@ -72,6 +75,9 @@ module _ (q : QueryValue) (within : IsWithinLimits q) (several : 1 < length q.fr
       adds-nothing q within several a there n f stream size asks made i (before i j n o m) j m (l i j o m)))
   tells-third (earlier d e) = counts refl d several (told-earlier q within several a there n f stream size asks made (λ i j o m.
       adds-nothing q within several a there n f stream size asks made i m j (before j i n o m) (e j i o m)))
+  tells-third (next d h) = counts refl d several (told-as-next q within several a there n f stream size asks made
+      (λ i m. adds-nothing q within several a there n f stream size asks made i (shorter i n m) (suc i) m ((h i (suc i) (shorter i n m) m).fails refl))
+      (λ i j l m o. adds-one q within several a there n f stream size asks made i l j m ((h i j l m).holds o)))
 
   tells-second : LaterMixesFail q a.stream n made.at → EarlierMixesFail q a.stream n made.at → Tells q C2 a n f
   tells-second l e = each (λ marks long i below. (

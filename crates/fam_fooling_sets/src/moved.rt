@@ -13,7 +13,7 @@ ghost use Rattle.fam_fooling_sets.specs.Shown.{rows_in, asking_in};
 use crate::family::{Asked, Family};
 use crate::ground::Ground;
 use crate::point::{Member, drawn_member};
-use fam_motions::{Values, apart, apart_once, different};
+use fam_motions::{Values, apart, apart_as_next, apart_once, different};
 use plan_closure::Bounds;
 use plan_constraints::place_of;
 use sem_query::{Attr, Condition, Query, Row, is_same};
@@ -211,7 +211,27 @@ fn by_one_kind(
     }
 }
 
-// A family for a column of which mixtures fail: those of both kinds, or for an unbounded inequality without DISTINCT those of one.
+// A family for a column of which the mixtures of the next number fail, and no others.
+fn by_next(
+    alloc: Global,
+    q: &Query,
+    attr: Attr,
+    blanks: &[Row],
+    n: u16,
+) -> Result<Option<Family>, AllocError>
+    requires plain { IsFalse q.now.distinct }
+    requires several { 1 < length q.now.from }
+    requires named { Contains (attrs_of q.now.atoms) attr }
+    requires blanks { AreBlanks q.now (rows_in blanks.now) }
+    ensures { IfOk result (λ found. IfSome found (IsFamilyLike q.now (rows_in blanks.now) C3 attr n)) }
+{
+    match apart_as_next(alloc, q, attr.stream, n)? {
+        Some(all) => Ok(Some(drawn(alloc, q, attr, blanks, &all)?)),
+        None => Ok(None),
+    }
+}
+
+// A family for a column of which mixtures fail: those of both kinds, or for an unbounded inequality without DISTINCT those of one, or of the next number.
 fn by_failing(
     alloc: Global,
     q: &Query,
@@ -219,6 +239,7 @@ fn by_failing(
     attr: Attr,
     blanks: &[Row],
     n: u16,
+    next: bool,
 ) -> Result<Option<Family>, AllocError>
     requires inequality { ¬ (condition ≡ C1) }
     requires several { 1 < length q.now.from }
@@ -232,7 +253,11 @@ fn by_failing(
     match condition {
         Condition::C1 => Ok(None),
         Condition::C2 => by_mixtures(alloc, q, condition, attr, blanks, n),
-        Condition::C3 => by_one_kind(alloc, q, attr, blanks, n),
+        Condition::C3 => if next {
+            by_next(alloc, q, attr, blanks, n)
+        } else {
+            by_one_kind(alloc, q, attr, blanks, n)
+        },
     }
 }
 
@@ -244,6 +269,7 @@ fn by_column(
     attr: Attr,
     blanks: &[Row],
     n: u16,
+    next: bool,
 ) -> Result<Option<FoundFamily>, AllocError>
     requires inequality { ¬ (condition ≡ C1) }
     requires blanks { AreBlanks q.now (rows_in blanks.now) }
@@ -255,7 +281,7 @@ fn by_column(
     if q.from().len() < 2 {
         return Ok(None);
     }
-    match by_failing(alloc, q, condition, attr, blanks, n)? {
+    match by_failing(alloc, q, condition, attr, blanks, n, next)? {
         Some(family) => Ok(Some(FoundFamily { attr, family })),
         None => Ok(None),
     }
@@ -269,6 +295,7 @@ fn by_others(
     attr: Attr,
     blanks: &[Row],
     n: u16,
+    next: bool,
 ) -> Result<Option<FoundFamily>, AllocError>
     requires inequality { ¬ (condition ≡ C1) }
     requires blanks { AreBlanks q.now (rows_in blanks.now) }
@@ -276,7 +303,7 @@ fn by_others(
 {
     for other in q.attrs() {
         if other.stream != attr.stream {
-            match by_column(alloc, q, condition, *other, blanks, n)? {
+            match by_column(alloc, q, condition, *other, blanks, n, next)? {
                 Some(found) => return Ok(Some(found)),
                 None => {}
             }
@@ -293,15 +320,37 @@ fn by_columns(
     attr: Attr,
     blanks: &[Row],
     n: u16,
+    next: bool,
 ) -> Result<Option<FoundFamily>, AllocError>
     requires inequality { ¬ (condition ≡ C1) }
     requires blanks { AreBlanks q.now (rows_in blanks.now) }
     ensures { IfOk result (λ found. IfSome found (IsFoundFor q.now (rows_in blanks.now) condition n)) }
 {
-    match by_column(alloc, q, condition, attr, blanks, n)? {
+    match by_column(alloc, q, condition, attr, blanks, n, next)? {
         Some(found) => Ok(Some(found)),
-        None => by_others(alloc, q, condition, attr, blanks, n),
+        None => by_others(alloc, q, condition, attr, blanks, n, next),
     }
+}
+
+// The same for an unbounded inequality: without DISTINCT at last one of which the mixtures of the next number fail.
+fn by_one_or_next(
+    alloc: Global,
+    q: &Query,
+    attr: Attr,
+    blanks: &[Row],
+    n: u16,
+) -> Result<Option<FoundFamily>, AllocError>
+    requires blanks { AreBlanks q.now (rows_in blanks.now) }
+    ensures { IfOk result (λ found. IfSome found (IsFoundFor q.now (rows_in blanks.now) C3 n)) }
+{
+    match by_columns(alloc, q, Condition::C3, attr, blanks, n, false)? {
+        Some(found) => return Ok(Some(found)),
+        None => {}
+    }
+    if !q.distinct() {
+        return by_columns(alloc, q, Condition::C3, attr, blanks, n, true);
+    }
+    Ok(None)
 }
 
 /// Returns a family of n rows for a condition that is broken at a column, or none where none is found: for an unbounded selected column at that column, and else
@@ -325,7 +374,7 @@ pub fn moved_family(
             Some(family) => Ok(Some(FoundFamily { attr, family })),
             None => Ok(None),
         },
-        Condition::C2 => by_columns(alloc, q, condition, attr, blanks, n),
-        Condition::C3 => by_columns(alloc, q, condition, attr, blanks, n),
+        Condition::C2 => by_columns(alloc, q, condition, attr, blanks, n, false),
+        Condition::C3 => by_one_or_next(alloc, q, attr, blanks, n),
     }
 }

@@ -1,3 +1,4 @@
 pub mod Against
+pub mod AsNext
 pub mod Passing
 pub mod Solutions

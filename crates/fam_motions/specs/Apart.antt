@@ -1,5 +1,5 @@
 -- Values of all numbers, and which mixtures of two of them do not satisfy the query.
-use Rattle.std.specs.Prelude.{◌≡◌, ℕ, ◌<◌, ◌≤ℤ◌, ◌<ℤ◌, cond, nat_eq, List, [], length, ℤ, IsFalse}
+use Rattle.std.specs.Prelude.{◌≡◌, ◌≢◌, ℕ, suc, ◌<◌, ◌≤ℤ◌, ◌<ℤ◌, cond, nat_eq, List, [], length, ℤ, IsFalse}
 use Rattle.std.specs.List.{slice_index_or, All}
 use Rattle.arrayvec.specs.ArrayVec.{ArrayVec as Items}
 use Rattle.sem_query.specs.declared.atom.Attr.{Attr}
@@ -32,11 +32,22 @@ LaterMixesFail q place n at = (i j : ℕ) → i < j → j < n → ¬ Holds q (mi
 abbrev pub EarlierMixesFail : QueryValue → ℕ → ℕ → (ℕ → Assignment) → Type 0
 EarlierMixesFail q place n at = (i j : ℕ) → i < j → j < n → ¬ Holds q (mixture place (at i) (at j))
 
--- No mixture of two of them satisfies the query. Without DISTINCT it is enough that none of the one kind does.
+-- what number j has at the place, and number i elsewhere, satisfies the query, unless j is the next number
+pub record FailsAsNext (q : QueryValue) (place : ℕ) (at : ℕ → Assignment) (i j : ℕ) : Type 0 where
+  pub fails : j ≡ suc i → ¬ Holds q (mixture place (at j) (at i))
+  pub holds : j ≢ suc i → Holds q (mixture place (at j) (at i))
+
+-- all mixtures satisfy the query but those of the next number
+abbrev pub OnlyNextMixesFail : QueryValue → ℕ → ℕ → (ℕ → Assignment) → Type 0
+OnlyNextMixesFail q place n at = (i j : ℕ) → i < n → j < n → FailsAsNext q place at i j
+
+-- No mixture of two of them satisfies the query. Without DISTINCT it is enough that none of the one kind does, or that only those of the next number do
+-- not.
 pub data StayApart (q : QueryValue) (place n : ℕ) (at : ℕ → Assignment) : Type 0 where
   both : LaterMixesFail q place n at → EarlierMixesFail q place n at → StayApart q place n at
   later : IsFalse q.distinct → LaterMixesFail q place n at → StayApart q place n at
   earlier : IsFalse q.distinct → EarlierMixesFail q place n at → StayApart q place n at
+  next : IsFalse q.distinct → OnlyNextMixesFail q place n at → StayApart q place n at
 
 -- the assignment of a number
 abbrev pub assigned : QueryValue → List (Items ℤ) → ℕ → Assignment

@@ -59,8 +59,8 @@ pub fn ways_at(q: &Query, differences: &[Difference], place: u8) -> Ways {
     ways
 }
 
-// So far up, or down.
-fn along(up: bool, stride: i128) -> i128 {
+/// Returns so far up, or down.
+pub fn along(up: bool, stride: i128) -> i128 {
     if up {
         stride
     } else {

@@ -13,13 +13,13 @@ use plan_constraints::place_of;
 use sem_query::{Attr, Query};
 use std::alloc::{AllocError, Global};
 
-/// What is searched: for a query, from these values on, in strides of this length, for so many numbers.
+//// What is searched: for a query, from these values on, in strides of this length, for so many numbers.
 #[derive(Drop)]
-struct Search<'a> {
-    q: &'a Query,
-    base: &'a [i128],
-    stride: i128,
-    n: u16,
+pub struct Search<'a> {
+    pub q: &'a Query,
+    pub base: &'a [i128],
+    pub stride: i128,
+    pub n: u16,
 }
 
 // The range from the first to the second integer, widened to hold a third.
@@ -34,8 +34,8 @@ fn widened(range: (i128, i128), value: i128) -> (i128, i128) {
     }
 }
 
-// How far the values, the integers of a query and 0 lie apart at most, and 2 more.
-fn stride_of(q: &Query, base: &[i128]) -> i128 {
+/// Returns how far the values, the integers of a query and 0 lie apart at most, and 2 more.
+pub fn stride_of(q: &Query, base: &[i128]) -> i128 {
     let mut range = (0, 0);
     for value in base {
         range = widened(range, *value);

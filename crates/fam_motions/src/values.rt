@@ -34,8 +34,8 @@ fn element_value(attrs: &[Attr], values: &[i128], element: Element) -> i128
     }
 }
 
-// Whether two integers stand to each other in this way.
-fn compares(op: Op, left: i128, right: i128) -> bool
+/// Returns whether two integers stand to each other in this way.
+pub fn compares(op: Op, left: i128, right: i128) -> bool
     ensures { result ≡ compares op left right }
 {
     match op {

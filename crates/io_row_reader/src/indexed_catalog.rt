@@ -1,5 +1,5 @@
 //! The streams, with what each row asks of its stream kept beside them.
-ghost use Rattle.std.specs.Prelude.{◌≡◌, ℤ, ◌+◌, ◌*◌, ◌≤◌, ◌<◌, List, [], ◌∷◌, length, slice_index, true, None, IfOk, IfSome, IsTrue};
+ghost use Rattle.std.specs.Prelude.{◌≡◌, ℤ, ◌+◌, ◌*◌, ◌≤◌, ◌<◌, List, [], ◌∷◌, length, true, None, IfOk, IfSome, IsTrue};
 ghost use Rattle.std.specs.List.{All};
 ghost use Rattle.sql_catalog.specs.Streams.{HasEnds, added, with_stream, shape_at, lie_within};
 ghost use Rattle.io_row_reader.specs.Ahead.{BeginsStream, IsEnded};
@@ -33,15 +33,6 @@ impl Model for IndexedCatalog {
     ghost view = { λ c. record { streams = c.catalog; opened = c.opened } };
 
     ghost invariant = { λ c. IsIndexed c.tables c.catalog × LeadToOpen c.starts c.opened };
-}
-
-// Whether a comma stands at a place of a text.
-#[inline(always)]
-fn is_comma_at(text: &[u8], place: usize) -> bool
-    requires { place < length text.now }
-    ensures { IsTrue result → slice_index text.now place ≡ 44 }
-{
-    text[place] == b','
 }
 
 // The hints that lead to the open streams alone.
@@ -107,13 +98,6 @@ impl IndexedCatalog {
         self.opened = opened;
     }
 
-    /// Returns the open streams.
-    pub fn open_streams(&self) -> &OpenStreams
-        ensures { result.now ≡ self.now.opened }
-    {
-        &self.opened
-    }
-
     /// Returns whether the stream of a number is open.
     #[inline(always)]
     pub(crate) fn is_open(&self, stream: u8) -> bool
@@ -131,10 +115,10 @@ impl IndexedCatalog {
     {
         // No effect at run time. The proof reads from this call what holds of every name.
         let _catalog = self.catalog.len();
-        if self.tables.single(stream) != u16::from(text[0]) {
+        if self.tables.singles[usize::from(stream)] != u16::from(text[0]) {
             return false;
         }
-        is_comma_at(text, 1)
+        text[1] == b','
     }
 
     /// Returns the number of the open stream with whose name and a comma a text begins, and where what stands behind that comma begins. It
@@ -171,7 +155,7 @@ impl IndexedCatalog {
     {
         // No effect at run time. The proof reads from this call that each stream has 1 to 8 columns.
         let _catalog = self.catalog.len();
-        usize::from(self.tables.width(stream))
+        usize::from(self.tables.widths[usize::from(stream)])
     }
 
     /// Returns how many bytes of a text a row of a stream with integers of at most 15 digits takes at most, with the longest name, and with one
@@ -181,7 +165,7 @@ impl IndexedCatalog {
         requires { stream < length self.now.streams }
         ensures { result ≡ 16 * length (shape_at self.now.streams stream).columns + 27 }
     {
-        usize::from(self.tables.room(stream))
+        usize::from(self.tables.rooms[usize::from(stream)])
     }
 
     /// Returns whether no column of a stream has a domain.
@@ -190,6 +174,6 @@ impl IndexedCatalog {
         requires { stream < length self.now.streams }
         ensures { IsTrue result → (values : List ℤ) → length values ≡ length (shape_at self.now.streams stream).columns → lie_within (shape_at self.now.streams stream).columns values ≡ true }
     {
-        self.tables.is_free(stream)
+        self.tables.free[usize::from(stream)] == 1
     }
 }

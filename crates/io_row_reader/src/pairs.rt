@@ -39,57 +39,32 @@ fn two_ends(lanes: u8x16) -> Option<(usize, usize)>
     ))
 }
 
-// The row of the table of orders for two places.
+// Whether 1 to 8 bytes stand before a first place, and 1 to 8 between it and a second.
 #[inline(always)]
-fn order_of(first: usize, second: usize) -> u8x16
+fn are_short_before(first: usize, second: usize) -> bool
     requires first { first < 16 }
     requires second { second < 16 }
-    ensures { result ≡ take 16 (slice_index_or ORDERS (16 * first + second) []) }
-{
-    u8x16::from_slice(&ORDERS[16 * first + second])
-}
-
-// Whether 1 to 8 bytes stand before a first place, and 1 to 8 between it and a second, by the order for these.
-#[inline(always)]
-fn are_short_before(order: u8x16, first: usize, second: usize) -> bool
-    requires first { first < 16 }
-    requires second { second < 16 }
-    requires order { order ≡ take 16 (slice_index_or ORDERS (16 * first + second) []) }
     ensures { IsTrue result → (0 < first) × (first ≤ 8) × (first + 1 < second) × (second ≤ first + 9) }
 {
-    order.to_array()[15] != 0
+    ORDERS[16 * first + second][15] != 0
 }
 
-// The lanes before a first place and those between it and a second, each put behind zeros into a half of the lanes, by the order for these.
+// The amounts that the digits before a first place write, and those between it and a second. The order for these puts both behind zeros, each into a half
+// of the lanes.
 #[inline(always)]
-fn in_halves(lanes: u8x16, order: u8x16, first: usize, second: usize) -> u8x16
+fn amounts_before(lanes: u8x16, first: usize, second: usize) -> [u64; 2]
     requires some { 0 < first }
     requires few { first ≤ 8 }
     requires some_behind { first + 1 < second }
     requires few_behind { second ≤ first + 9 }
     requires within { second < 16 }
-    requires order { order ≡ take 16 (slice_index_or ORDERS (16 * first + second) []) }
-    ensures left { take 8 result ≡ replicate (8 - first) 0 ++ take first lanes }
-    ensures right { drop 8 result ≡ replicate (first + 9 - second) 0 ++ take (second - (first + 1)) (drop (first + 1) lanes) }
-{
-    lanes.swizzle_dyn(order)
-}
-
-// The amounts that the digits before a first place write, and those between it and a second, by the order for these.
-#[inline(always)]
-fn amounts_before(lanes: u8x16, order: u8x16, first: usize, second: usize) -> [u64; 2]
-    requires some { 0 < first }
-    requires few { first ≤ 8 }
-    requires some_behind { first + 1 < second }
-    requires few_behind { second ≤ first + 9 }
-    requires within { second < 16 }
-    requires order { order ≡ take 16 (slice_index_or ORDERS (16 * first + second) []) }
     requires digits { first ≤ prefix_len is_digit lanes }
     requires digits_behind { second ≤ first + 1 + prefix_len is_digit (drop (first + 1) lanes) }
     ensures first { slice_index result 0 ≡ amount (take first lanes) }
     ensures second { slice_index result 1 ≡ amount (take (second - (first + 1)) (drop (first + 1) lanes)) }
 {
-    numbers_of(in_halves(lanes - u8x16::splat(b'0'), order, first, second))
+    let order = u8x16::from_slice(&ORDERS[16 * first + second]);
+    numbers_of((lanes - u8x16::splat(b'0')).swizzle_dyn(order))
 }
 
 /// Two integers with a comma between them: the amounts, how many bytes stand before the comma, and how many in all.
@@ -115,12 +90,11 @@ pub(crate) fn pair_at(text: &[u8], start: usize) -> Option<DigitPair>
     if text[start + comma] != b',' {
         return None;
     }
-    let order = order_of(comma, len);
-    if !are_short_before(order, comma, len) {
+    if !are_short_before(comma, len) {
         return None;
     }
     Some(DigitPair {
-        amounts: amounts_before(lanes, order, comma, len),
+        amounts: amounts_before(lanes, comma, len),
         comma,
         len,
     })

@@ -11,10 +11,10 @@ use sql_catalog::{Catalog, Columns};
 /// integers of at most 15 digits takes at most; and 1 where no column has a domain.
 #[derive(Clone, Copy, Debug)]
 pub(crate) struct StreamTables {
-    singles: [u16; 16],
-    widths: [u16; 16],
-    rooms: [u16; 16],
-    free: [u16; 16],
+    pub(crate) singles: [u16; 16],
+    pub(crate) widths: [u16; 16],
+    pub(crate) rooms: [u16; 16],
+    pub(crate) free: [u16; 16],
 }
 
 // Puts a value into a table.
@@ -24,15 +24,6 @@ fn put(table: &mut [u16; 16], place: u8, value: u16)
     ensures others { (n : ℕ) → (n ≡ place → ⊥) → slice_index table.new n ≡ slice_index table.old n }
 {
     table[usize::from(place)] = value;
-}
-
-// The value of a table at a place.
-#[inline(always)]
-fn at(table: &[u16; 16], place: u8) -> u16
-    requires { place < 16 }
-    ensures { result ≡ slice_index table.now place }
-{
-    table[usize::from(place)]
 }
 
 // The byte that a name is, or 256 where it has more than one.
@@ -95,41 +86,5 @@ impl StreamTables {
         put(&mut self.widths, number, width_of(columns));
         put(&mut self.rooms, number, room_of(columns));
         put(&mut self.free, number, mark_of(columns));
-    }
-
-    /// Returns the byte that the name of a stream is, or 256.
-    #[inline(always)]
-    pub(crate) fn single(&self, stream: u8) -> u16
-        requires { stream < 16 }
-        ensures { result ≡ slice_index self.now.singles stream }
-    {
-        at(&self.singles, stream)
-    }
-
-    /// Returns how many columns a stream has.
-    #[inline(always)]
-    pub(crate) fn width(&self, stream: u8) -> u16
-        requires { stream < 16 }
-        ensures { result ≡ slice_index self.now.widths stream }
-    {
-        at(&self.widths, stream)
-    }
-
-    /// Returns how many bytes of a text a row of a stream with integers of at most 15 digits takes at most.
-    #[inline(always)]
-    pub(crate) fn room(&self, stream: u8) -> u16
-        requires { stream < 16 }
-        ensures { result ≡ slice_index self.now.rooms stream }
-    {
-        at(&self.rooms, stream)
-    }
-
-    /// Returns whether no column of a stream has a domain.
-    #[inline(always)]
-    pub(crate) fn is_free(&self, stream: u8) -> bool
-        requires { stream < 16 }
-        ensures { result ≡ true → slice_index self.now.free stream ≡ 1 }
-    {
-        at(&self.free, stream) == 1
     }
 }

@@ -16,7 +16,7 @@ mod write;
 
 pub use file::FileSource;
 pub use gathered::Gathered;
-pub use memory::{MemSink, MemSource, SureSource};
+pub use memory::MemSink;
 pub use sink::{Sink, WriteAnswer, WriteFault};
 pub use source::{ReadAnswer, Source};
 pub use standard::{StdSink, StdSource};

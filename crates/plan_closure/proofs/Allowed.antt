@@ -96,15 +96,3 @@ bound_if_implied n few cs ws c k m la lb h = go (entry_at ws c.left c.right) ref
         let a : u.at c.left ≤ℤ (c.bound +ℤ u.at c.right) = h.met u.at u.solves in
         let r : u.at c.left ≡ w.bound +ℤ u.at c.right = u.reached in
         omega (arith, ints, a, r)
-
--- the test of the way back decides
-pub closes_none : (n : ℕ) → n ≤ 13 → (cs : List Constraint) (ws : List (Option Entry)) (o : Option (List ℕ)) (c : Constraint) (w : Entry) (b : Bool) → IsSettled n cs ws o → AreTight n cs ws → c.left < n → c.right < n → entry_at ws c.right c.left ≡ Some w
-    → (IsTrue b → (w.bound +ℤ c.bound) <ℤ pos 0) × ((w.bound +ℤ c.bound) <ℤ pos 0 → IsTrue b) → (IsTrue (not b) → Allows cs c) × (Allows cs c → IsTrue (not b))
-closes_none n few cs ws o c w true k t la lb e f = ((λ y. cc), (λ s. absurd (not_allowed n few cs ws o c w k la lb e (f.0 refl) s)))
-closes_none n few cs ws o c w false k t la lb e f = (
-  (λ y. allowed n cs ws c t la lb (λ v g.
-      let same : w ≡ v = some_is (sym e ∙ g) in
-      let l : pos 0 ≤ℤ (w.bound +ℤ c.bound) = by_lt_z (w.bound +ℤ c.bound) (pos 0) (λ h. let z = f.1 h in absurd cc) (λ h. h) in
-      subst (λ (z : Entry). pos 0 ≤ℤ (z.bound +ℤ c.bound)) same l)),
-  (λ s. refl),
-)

@@ -73,15 +73,6 @@ impl Bounds {
         }
     }
 
-    /// Makes these bounds the same as others, in place.
-    pub fn set(&mut self, other: &Bounds)
-        ensures attrs { self.new.attrs ≡ other.now.attrs }
-        ensures constraints { self.new.constraints ≡ other.now.constraints }
-    {
-        self.closure = other.closure;
-        replace(&mut self.constraints, other.constraints.as_slice());
-    }
-
     /// Returns whether some integers for the nodes, node 0 being 0, meet all constraints.
     pub fn satisfiable(&self) -> bool
         ensures { IsTrue result ↔ IsSatisfiable self.now.constraints }
@@ -191,17 +182,6 @@ impl Bounds {
             return None;
         }
         Some(self.closure.solution(i, value))
-    }
-}
-
-// Puts these constraints in the place of those of a list.
-fn replace(list: &mut ArrayVec<Constraint, 300>, cs: &[Constraint])
-    requires { length cs.now ≤ 300 }
-    ensures { list.new.items ≡ cs.now }
-{
-    list.clear();
-    for c in cs {
-        list.push(*c);
     }
 }
 

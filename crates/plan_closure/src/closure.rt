@@ -160,33 +160,6 @@ impl Closure {
         !self.is_broken()
     }
 
-    /// Returns whether some integers meet the constraint beside those that were added.
-    pub fn allows(&self, c: Constraint) -> bool
-        requires known { HasRoom self.now 0 }
-        requires within { IsWithin self.now.attrs c }
-        ensures { (n : ℕ) (cs : List Constraint) → IsClosureOf self.now n cs → IsTrue result ↔ Allows cs c }
-    {
-        if self.is_broken() {
-            return false;
-        }
-        match self.entry(c.right, c.left) {
-            Some(back) => !closes(back, c),
-            None => true,
-        }
-    }
-
-    /// Returns whether all integers that meet the constraints that were added meet this one.
-    pub fn implies(&self, c: Constraint) -> bool
-        requires known { HasRoom self.now 0 }
-        requires within { IsWithin self.now.attrs c }
-        ensures { (n : ℕ) (cs : List Constraint) → IsClosureOf self.now n cs → IsTrue result ↔ Implies cs c }
-    {
-        if self.is_broken() {
-            return true;
-        }
-        self.has_bound(c)
-    }
-
     /// Adds these constraints, in order.
     pub fn add_all(&mut self, cs: &[Constraint])
         requires known { HasRoom self.old (length cs.now) }
@@ -196,34 +169,6 @@ impl Closure {
         for c in cs {
             self.add(*c);
         }
-    }
-
-    /// Returns whether for each of these constraints some integers meet it beside those that were added.
-    pub fn allows_each(&self, cs: &[Constraint]) -> bool
-        requires known { HasRoom self.now 0 }
-        requires within { All (IsWithin self.now.attrs) cs.now }
-        ensures { (n : ℕ) (ks : List Constraint) → IsClosureOf self.now n ks → IsTrue result ↔ All (Allows ks) cs.now }
-    {
-        for c in cs {
-            if !self.allows(*c) {
-                return false;
-            }
-        }
-        true
-    }
-
-    /// Returns whether all integers that meet the constraints that were added meet each of these.
-    pub fn implies_each(&self, cs: &[Constraint]) -> bool
-        requires known { HasRoom self.now 0 }
-        requires within { All (IsWithin self.now.attrs) cs.now }
-        ensures { (n : ℕ) (ks : List Constraint) → IsClosureOf self.now n ks → IsTrue result ↔ All (Implies ks) cs.now }
-    {
-        for c in cs {
-            if !self.implies(*c) {
-                return false;
-            }
-        }
-        true
     }
 
     /// The way from one node to another.

@@ -93,17 +93,3 @@ pub fn cell_index(plan: &StreamPlan, values: &[i64]) -> u32
 {
     plan.base + place_of(plan.dims.as_slice(), values)
 }
-
-/// Returns the values that a cell stands for.
-pub fn cell_values(plan: &StreamPlan, index: u32) -> ArrayVec<i64, 8>
-    requires full { AreFull plan.now.dims.items }
-    requires size { plan.now.size ≡ box_size plan.now.dims.items }
-    requires room { plan.now.base + plan.now.size < 2 ^ 32 }
-    requires low { plan.now.base ≤ index }
-    requires high { index < plan.now.base + plan.now.size }
-    ensures inside { AreInside plan.now.dims.items result.items }
-    ensures place { plan.now.base + place_of plan.now.dims.items result.items ≡ index }
-    ensures only { (xs : List ℤ) → AreInside plan.now.dims.items xs → plan.now.base + place_of plan.now.dims.items xs ≡ index → result.items ≡ xs }
-{
-    values_at(plan.dims.as_slice(), index - plan.base)
-}

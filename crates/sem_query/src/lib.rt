@@ -15,7 +15,6 @@ mod cell;
 mod condition;
 mod decision;
 mod dims;
-mod evaluation;
 mod first_break;
 mod groups;
 pub mod laws;
@@ -28,7 +27,7 @@ mod signs;
 
 pub use alone::{value_alone, value_at};
 pub use atom::{Atom, Attr, Domain, Element, Op, is_before, is_same, is_same_element};
-pub use boxes::{cell_index, cell_values, place_of, size_of, values_at};
+pub use boxes::{cell_index, place_of, size_of, values_at};
 pub use cell::Cell;
 pub use condition::Condition;
 pub use decision::{Decision, Which};

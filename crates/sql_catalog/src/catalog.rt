@@ -174,16 +174,6 @@ impl Catalog {
         columns[usize::from(column)].domain
     }
 
-    /// Returns whether each value of a row of the stream of this number lies in the domain of its column.
-    pub fn keeps(&self, stream: u8, row: &Row) -> bool
-        requires stream { stream < length self.now }
-        requires width { length row.now.items ≡ length (shape_at self.now stream).columns }
-        ensures value { result ≡ lie_within (shape_at self.now stream).columns row.now.items }
-        ensures domains { IsTrue result → KeepsDomains self.now stream row.now.items }
-    {
-        self.columns(stream).keep(row.as_slice())
-    }
-
     /// Puts the row that a row line is into `row`, in place of what that holds, and gives the number of its stream. The line begins with
     /// a word; blanks or none and a comma stand behind it. An error is the first of `RowError` that applies, and `row` is left
     /// with any values then.

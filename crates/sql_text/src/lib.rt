@@ -9,16 +9,14 @@ mod key;
 pub mod laws;
 mod line;
 mod name;
-mod put;
 mod tuple;
 mod value;
 mod word;
 
 pub use blank::{is_blank, trim, trim_end, trim_start};
 pub use key::{Key, key_of};
-pub use line::{cut, first_line};
+pub use line::cut;
 pub use name::Name;
-pub use put::{put_i64, put_name, put_u64};
 pub use tuple::{put_tuple, put_tuples};
 pub use value::{leading_i64, read_i64};
 pub use word::{begins_word, is_letter, is_word, is_word_byte, split_word};

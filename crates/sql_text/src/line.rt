@@ -21,16 +21,3 @@ pub fn cut(text: &[u8], at: u8) -> (&[u8], Option<&[u8]>)
         None => (text, None),
     }
 }
-
-/// Returns the first line of a text, without its LF, and the text of the other lines.
-pub fn first_line(text: &[u8]) -> (&[u8], &[u8])
-    requires { 0 < length text.now }
-    ensures lines { lines text.now ≡ result.0.now ∷ lines result.1.now }
-    ensures shorter { length result.1.now < length text.now }
-{
-    let (line, behind) = cut(text, b'\n');
-    match behind {
-        Some(rest) => (line, rest),
-        None => (line, &[]),
-    }
-}

@@ -8,6 +8,7 @@ import os
 import re
 import resource
 import select
+import shutil
 import signal
 import socket
 import subprocess
@@ -82,9 +83,9 @@ class Faults(unittest.TestCase):
         """Runs it to its end."""
         return subprocess.run(self.words(*more, **how), input=given, capture_output=True, timeout=PATIENCE, check=False)
 
-    def start(self, *more, stdin=subprocess.DEVNULL, stdout=subprocess.DEVNULL, limit=None, flags=("-S",), **how):
+    def start(self, *more, stdin=subprocess.DEVNULL, stdout=subprocess.DEVNULL, limit=None, flags=("-S",), folder="kept", **how):
         """Has it run beside the test; what it says stands in the file `said`. No file gets more bytes than the limit."""
-        words = [*(["prlimit", f"--fsize={limit}:{limit}"] if limit else []), *self.words(*more, flags=flags)]
+        words = [*(["prlimit", f"--fsize={limit}:{limit}"] if limit else []), *self.words(*more, flags=flags, folder=folder)]
         with open(self.path("said"), "ab") as said:
             process = subprocess.Popen(words, stdin=stdin, stdout=stdout, stderr=said, bufsize=0, **how)
         self.running.append(process)
@@ -201,6 +202,13 @@ class Input(Faults):
         last = b"Locked\n" if b"DROP" in piece else b"Value\n" if b"x" in piece else b"q," + piece.split(b",")[-1].replace(b"\r", b"")
         return wanted.startswith(came) and came.endswith(last)
 
+    def test_wrong_words_are_told_from_what_is_wrong(self):
+        for words in (["--no-such-word"], ["--every", "0"], ["--every", "many"], ["--grace", "-1"], ["--input", "a", "--follow", "b"], ["--where"], ["--change", "x", "--status"]):
+            ran = self.keep(*words)
+            self.assertEqual((ran.returncode, ran.stdout), (2, b""), ran.stderr)
+        self.assertEqual(self.keep(script=None).returncode, 2)
+        self.assertFalse(os.path.exists(self.path("kept")))
+
     def test_a_named_pipe_that_is_followed_stays_open(self):
         os.mkfifo(self.path("rows"))
         process = self.start("--follow", self.path("rows"), "--output", self.path("out"))
@@ -285,6 +293,23 @@ class Output(Faults):
         ran = self.keep("--ack", self.path("ack"), "--from", str(place), given=source[place:])
         self.assertEqual((durable + ran.stdout, ran.returncode), (answers(*range(1, 51)), 0))
 
+    def test_a_consumer_that_cuts_what_it_has_has_nothing_twice(self):
+        """Over a pipe it tells nothing; the keeper is killed behind the checkpoint of 3 of 5 rows, and all replies came."""
+        process, came = self.start("--seconds", "1000", stdin=subprocess.PIPE, stdout=subprocess.PIPE), b""
+        process.stdin.write(rows(1, 2, 3))
+        while came != answers(1, 2, 3):
+            came += os.read(process.stdout.fileno(), 100)
+        process.send_signal(signal.SIGHUP)
+        self.until(lambda: self.has_bytes(12))
+        process.stdin.write(rows(4, 5))
+        while came != answers(1, 2, 3, 4, 5):
+            came += os.read(process.stdout.fileno(), 100)
+        self.kill(process)
+        place = self.keep("--where", script=None).stdout.split()
+        self.assertEqual((int(place[5]), int(place[7])), (12, 12))
+        ran = self.keep("--from", place[5].decode(), given=rows(4, 5, 6))
+        self.assertEqual((ran.returncode, came[:int(place[7])] + ran.stdout), (0, answers(1, 2, 3, 4, 5, 6)))
+
     def test_two_runs_have_neither_one_folder_nor_one_output(self):
         os.mkfifo(self.path("rows"))
         words = ["--follow", self.path("rows"), "--output", self.path("out")]
@@ -302,6 +327,25 @@ class Output(Faults):
         for _ in range(2):
             self.assertEqual(self.keep("--input", self.path("rows"), "--output", self.path("out")).returncode, 0)
             self.assertEqual(self.get("out"), b"of an older session\n" + answers(1, 2))
+
+    def test_replies_may_go_to_a_file_in_one_run_and_to_a_pipe_in_another(self):
+        self.assertEqual(self.keep("--output", self.path("out"), given=rows(1)).returncode, 0)
+        self.assertEqual(self.keep("--from", "4", given=rows(2)).stdout, answers(2))
+        ran = self.keep("--from", "8", "--output", self.path("out"), given=rows(3))
+        self.assertEqual((ran.returncode, self.get("out")), (1, answers(1)))
+        self.assertIn(b"is not the output", ran.stderr)
+
+    def test_it_goes_on_on_another_machine(self):
+        """Folder, followed file and output are copied, so all have other inodes."""
+        words = ["--follow", "{}/rows", "--output", "{}/out"]
+        for count, name in enumerate(("one", "two", "three"), 1):
+            folder = self.path(name)
+            shutil.copytree(self.path(before), folder, ignore=shutil.ignore_patterns("control")) if count > 1 else os.mkdir(folder)
+            self.put(f"{name}/rows", rows(count), "ab")
+            process = self.start(*(it.format(folder) for it in words), folder=f"{name}/kept")
+            self.until(lambda: self.get(f"{name}/out") == answers(*range(1, count + 1)))
+            self.end(process)
+            before = name
 
     def test_a_standard_handle_that_is_closed_is_no_file_of_the_keeper(self):
         for closed, status in (("<&-", 0), (">&-", 1), ("2>&-", 0)):
@@ -394,8 +438,8 @@ def noted_fsync(file):
     note("sync " + os.readlink("/proc/self/fd/%d" % (file if isinstance(file, int) else file.fileno())))
 def noted_rename(old, new):
     rename(old, new)
-    if new.endswith(".bq"):
-        note("rename " + new)
+    if str(new).endswith(".bq"):
+        note(f"rename {{new}}")
 os.fsync, os.rename = noted_fsync, noted_rename
 """.encode())
         ran = subprocess.run(self.words("--output", self.path("out"), flags=()), input=self.limits, capture_output=True, timeout=PATIENCE, env={**os.environ, "PYTHONPATH": self.folder.name})

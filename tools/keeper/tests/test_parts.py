@@ -7,20 +7,18 @@ import sys
 import tempfile
 import time
 import unittest
-import warnings
 from types import SimpleNamespace
 from unittest import mock
 
 sys.dont_write_bytecode = True
 sys.path.insert(0, os.path.dirname(os.path.dirname(os.path.dirname(os.path.abspath(__file__)))))
 
-from keeper import Fault, stream  # noqa: E402
+from keeper import Fault, source, stream  # noqa: E402
 from keeper.checkpoint import Checkpoint, Mark, Place, choose, path_of, read, save, sum_of, written  # noqa: E402
 from keeper.heard import Acks, Changes  # noqa: E402
-from keeper.run import KEPT, Run  # noqa: E402
-from keeper.sink import Sink  # noqa: E402
+from keeper.run import Run  # noqa: E402
 from keeper.source import File, Source  # noqa: E402
-from keeper.stream import LONGEST, Lines, Outlet, Way, pass_on  # noqa: E402
+from keeper.stream import LONGEST, Lines, Outlet, Sink, Way, pass_on  # noqa: E402
 
 
 def plain_lines(text):
@@ -96,7 +94,7 @@ class FilesAreFollowed(InAFolder):
 
     def follow(self, place=Place(), **how):
         source = File(self.path("rows"), True, place, **how)
-        self.addCleanup(lambda: os.close(source.fd))
+        self.addCleanup(lambda: source.file.close())
         return source
 
     def place_of(self, source):
@@ -185,8 +183,9 @@ class FilesAreFollowed(InAFolder):
 
 class ChangesAreListed(InAFolder):
     def changes(self, is_anew=False):
-        changes = Changes(self.folder.name, None, is_anew)
-        self.addCleanup(changes.list.close)
+        handle = os.open(self.folder.name, os.O_RDONLY)
+        self.addCleanup(os.close, handle)
+        changes = Changes(self.folder.name, handle, None, is_anew)
         self.addCleanup(os.close, changes.pipe.fd)
         return changes
 
@@ -211,10 +210,7 @@ class ChangesAreListed(InAFolder):
 
     def test_a_line_that_no_keeper_wrote_is_refused(self):
         self.put("changes", b"DROP QUERY q\n")
-        with warnings.catch_warnings():
-            # the command ends with the fault, and what it opened is closed
-            warnings.simplefilter("ignore", ResourceWarning)
-            self.assertRaises(Fault, Changes, self.folder.name, None, False)
+        self.assertRaises(Fault, self.changes)
 
 
 class AcknowledgementsAreRead(InAFolder):
@@ -347,22 +343,16 @@ class LinesArePassedOn(unittest.TestCase):
 class LinesAreKept(unittest.TestCase):
     """For a bq that is to be begun again."""
 
-    @staticmethod
-    def left(size, session):
-        """How many bytes are left of so many, behind a look at the clock."""
-        run, source = Run.__new__(Run), Source(None, Place())
-        source.sent = bytearray(size)
-        vars(run).update(session=session, keeping=None, begin_at=1, is_told=False, is_curious=False, is_ending=True, kept=Checkpoint(),
-                         look_at_bq=lambda _: None, source=source, acks=SimpleNamespace(read=lambda: None), watch=SimpleNamespace(next_look=1))
-        run.tick(0)
-        return len(source.sent), source.total
-
-    def test_however_many_until_it_runs(self):
-        self.assertEqual(self.left(KEPT + 1, None), (KEPT + 1, KEPT + 1))
-
-    def test_no_more_than_so_many_while_one_runs(self):
-        self.assertEqual(self.left(KEPT, object()), (KEPT, KEPT))
-        self.assertEqual(self.left(KEPT + 1, object()), (0, KEPT + 1))
+    def test_no_more_than_so_many(self):
+        """Where they are too many there are none, as a bq that lacks some cannot go on."""
+        one = Source(None, Place())
+        with mock.patch.object(source, "KEPT", 12):
+            for text, left in ((b"S,1\n", 4), (b"S,2\nS,3\n", 12), (b"S,4\n", 0), (b"S,5\n", 4)):
+                one.count(text)
+                self.assertEqual(len(one.sent), left)
+            self.assertEqual((one.lines, one.total), (5, 20))
+            one.forget(16)
+            self.assertEqual(bytes(one.sent), b"S,5\n")
 
     def test_those_behind_the_newest_checkpoint_whatever_was_asked_for_meanwhile(self):
         source, places = Source(None, Place()), []
@@ -372,6 +362,35 @@ class LinesAreKept(unittest.TestCase):
         for place, left in zip((places[0], places[1], places[0], places[2]), (b"S,2\nS,3\nS,4\n", b"S,4\n", b"S,4\n", b"")):
             source.forget(place)
             self.assertEqual((bytes(source.sent), source.total), (left, 16))
+
+
+class BqIsBegunAgain(unittest.TestCase):
+    def test_after_a_pause_that_grows_and_is_short_where_the_one_before_lived(self):
+        run = Run.__new__(Run)
+        vars(run).update(keeping=None, kept=Checkpoint(number=1), is_told=False, source=Source(None, Place()), pause=0, begin_at=0, watch=SimpleNamespace(restarts=0))
+        pauses, now = [], 1000
+        for lived in [1] * 11 + [100, 1]:
+            now += run.pause + lived
+            run.session = SimpleNamespace(end=lambda: -9, is_closed=False)
+            with mock.patch("time.monotonic", lambda: now), self.assertLogs("keep", "ERROR"):
+                run.on_end_of_bq()
+            pauses.append(round(run.pause, 1))
+            self.assertEqual((run.session, run.begin_at), (None, now + run.pause))
+        self.assertEqual((pauses, run.watch.restarts), ([0.1, 0.2, 0.4, 0.8, 1.6, 3.2, 6.4, 12.8, 25.6, 30, 30, 0.1, 0.2], 13))
+
+    def test_only_from_all_lines_behind_the_checkpoint(self):
+        source = Source(None, Place())
+        source.count(b"S,1\nS,2\n")
+        source.forget(4)
+        for lines, is_told, holds in ((1, False, True), (0, False, False), (1, True, False)):
+            run = Run.__new__(Run)
+            vars(run).update(keeping=None, kept=Checkpoint(number=1, place=Place(lines=lines)), is_told=is_told, source=source, pause=0, begin_at=0, watch=SimpleNamespace(restarts=0),
+                             session=SimpleNamespace(end=lambda: -9, is_closed=False))
+            if holds:
+                with self.assertLogs("keep", "ERROR"):
+                    run.on_end_of_bq()
+            else:
+                self.assertRaises(Fault, run.on_end_of_bq)
 
 
 class OutputsAreNeverCut(InAFolder):

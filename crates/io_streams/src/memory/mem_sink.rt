@@ -53,13 +53,6 @@ impl MemSink {
     {
         &self.bytes
     }
-
-    /// Returns how many writes failed because no memory was found.
-    pub fn lacked(&self) -> u64
-        ensures { result ≡ self.now.lacked }
-    {
-        self.lacked
-    }
 }
 
 impl Sink for MemSink {

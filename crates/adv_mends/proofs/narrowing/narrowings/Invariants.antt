@@ -3,4 +3,4 @@ use Rattle.adv_mends.specs.Narrowed.{AreNarrowed}
 use Rattle.adv_mends.proofs.narrowing.narrowings.Given as goal
 
 abbrev pub invariant-columns : goal.invariant-columns
-invariant-columns l = AreNarrowed l.shared l.query l.own (take l.column-index l.column-items) l.best.items
+invariant-columns l = AreNarrowed l.base.shared l.base.query.now l.base.own (take l.column-index l.column-items) l.best.items

@@ -6,4 +6,4 @@ use Rattle.cmd_advise.proofs.changes.write_sets.Given as goal
 
 -- the texts so far were written
 abbrev pub invariant-loop-set : goal.invariant-loop-set
-invariant-loop-set g l = Wrote (g.O.Sink.seen l.fn.out) (g.O.Sink.seen l.out) (flat_map (set_line l.remedy l.names.catalog.now l.names.from.now) (take l.set-index l.sets))
+invariant-loop-set g l = Wrote (g.O.Sink.seen l.fn.out) (g.O.Sink.seen l.out) (flat_map (set_line l.by l.names.catalog.now l.names.from.now) (take l.set-index l.sets))

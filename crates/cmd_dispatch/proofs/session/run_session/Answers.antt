@@ -17,16 +17,16 @@ returns-in_default-new-clause-files_later g c = same-fell _
 pub returns-clause-ends : goal.returns-clause-ends
 returns-clause-ends g c =
     rw (c.status_of.ensures, c.failed_in.ensures)
-    (session-ends c.args.form.file c.answer_all-reached.result.in_file c.args.form.each c.answer_all-reached.result.ending c.args.form.limit _ _ _ _ _ _ (c.answer_all-reached.ensures (empty c.args.form.limit) c.in-Ok-new.ensures))
+    (session-ends c.args.form.file c.gather-reached.result.in_file c.args.form.each c.gather-reached.result.ending c.args.form.limit _ _ _ _ _ _ (c.gather-reached.ensures (empty c.args.form.limit) c.in-Ok-new.ensures))
 
 pub returns-clause-input_later : goal.returns-clause-input_later
 returns-clause-input_later g c =
-    ran-input c.args.form.file c.answer_all-reached.result.in_file c.args.form.each c.answer_all-reached.result.ending (empty c.args.form.limit) _ _ _ _ _ _ (c.answer_all-reached.ensures (empty c.args.form.limit) c.in-Ok-new.ensures)
+    ran-input c.args.form.file c.gather-reached.result.in_file c.args.form.each c.gather-reached.result.ending (empty c.args.form.limit) _ _ _ _ _ _ (c.gather-reached.ensures (empty c.args.form.limit) c.in-Ok-new.ensures)
 
 pub returns-clause-files_later : goal.returns-clause-files_later
 returns-clause-files_later g c =
-    ran-files c.args.form.file c.answer_all-reached.result.in_file c.args.form.each c.answer_all-reached.result.ending (empty c.args.form.limit) _ _ _ _ _ _ (c.answer_all-reached.ensures (empty c.args.form.limit) c.in-Ok-new.ensures)
+    ran-files c.args.form.file c.gather-reached.result.in_file c.args.form.each c.gather-reached.result.ending (empty c.args.form.limit) _ _ _ _ _ _ (c.gather-reached.ensures (empty c.args.form.limit) c.in-Ok-new.ensures)
 
 pub returns-clause-output_later : goal.returns-clause-output_later
 returns-clause-output_later g c =
-    ran-output c.args.form.file c.answer_all-reached.result.in_file c.args.form.each c.answer_all-reached.result.ending (empty c.args.form.limit) _ _ _ _ _ _ (c.answer_all-reached.ensures (empty c.args.form.limit) c.in-Ok-new.ensures)
+    ran-output c.args.form.file c.gather-reached.result.in_file c.args.form.each c.gather-reached.result.ending (empty c.args.form.limit) _ _ _ _ _ _ (c.gather-reached.ensures (empty c.args.form.limit) c.in-Ok-new.ensures)

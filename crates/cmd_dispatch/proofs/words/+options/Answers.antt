@@ -1,4 +1,4 @@
-use Rattle.std.proofs.Common.{refl, map}
+use Rattle.std.proofs.Common.{refl}
 use Rattle.std.specs.String.{string_bytes}
 use Rattle.cmd_dispatch.specs.Words.{over}
 use Rattle.cmd_dispatch.proofs.WordForms.{then_each, then_rows, no_limit, no_option, texts_behind}

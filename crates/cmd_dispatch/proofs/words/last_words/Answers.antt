@@ -1,4 +1,4 @@
-use Rattle.std.proofs.Common.{map, ap, sym, refl, subst, ◌∙◌, [], ◌∷◌}
+use Rattle.std.proofs.Common.{map, ap, refl, subst}
 use Rattle.std.specs.String.{string_bytes}
 use Rattle.cmd_dispatch.specs.Words.{IsFileName, named}
 use Rattle.cmd_dispatch.proofs.WordForms.{one_word}

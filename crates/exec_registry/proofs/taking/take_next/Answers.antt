@@ -9,7 +9,7 @@ use Rattle.exec_registry.proofs.taking.take_next.Goals as goal
 pub returns-clause-taken : goal.returns-clause-taken
 returns-clause-taken g c = λ name.
     let r = arrival c.args.stream c.args.row.now.items in
-    let caught : ExecutorValue = c.catch_up.new.self.executor in
-    let live : IsLive c.args.pool.now caught.extent = subst (λ (e : ExecutorValue). IsLive c.args.pool.now e.extent) (sym c.catch_up.ensures.executor) c.requires.ready.kept.live in
-    subst (λ (e : ExecutorValue). TookOne r c.args.pool.now c.apply-waits.new.pool (named name e) (named name c.apply-waits.new.self)) c.catch_up.ensures.executor
+    let caught : ExecutorValue = c.pass.new.self in
+    let live : IsLive c.args.pool.now caught.extent = subst (λ (e : ExecutorValue). IsLive c.args.pool.now e.extent) (sym c.pass.ensures) c.requires.ready.kept.live in
+    subst (λ (e : ExecutorValue). TookOne r c.args.pool.now c.apply-waits.new.pool (named name e) (named name c.apply-waits.new.self)) c.pass.ensures
     (took_one r c.args.pool.now c.apply-waits.new.pool name caught c.apply-waits.new.self live c.apply-waits.ensures.took c.plan-sound.ensures.sound)

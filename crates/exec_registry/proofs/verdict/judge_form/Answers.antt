@@ -1,6 +1,6 @@
 use Rattle.std.proofs.Common.{subst, Err}
 use Rattle.plan_forms.specs.Planned.{IsFormAnswer}
-use Rattle.exec_registry.specs.Judged.{many, large}
+use Rattle.exec_registry.specs.Judged.{large}
 use Rattle.exec_registry.proofs.Verdicts.{form_accepted}
 use Rattle.exec_registry.proofs.verdict.judge_form.Goals as goal
 

@@ -1,4 +1,0 @@
-use Rattle.cmd_dispatch.proofs.session.answer_all.Given as goal
-
-abbrev pub ghosts-gather : goal.ghosts-gather
-ghosts-gather g a = record { name = a.blank.name; parts = a.blank.parts }

@@ -1,2 +1,0 @@
-pub mod Oracle
-pub mod Combinations
