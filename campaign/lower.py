@@ -3,8 +3,8 @@
 The first line must name the first failure by the analysis, the rows must be rows of their streams
 in 64 bits and in the domains of their columns, a column that the query does not name must have the
 lower end of its domain or 0, and the family must tell its sets: whatever set of its rows came
-before, the rows that ask for a row show whether it is in the set, or for an inequality without
-DISTINCT the numbers of answers differ between any two sets. All sets are tried up to 2^6, 64 random
+before, the rows that ask for a row show whether it is in the set, or without DISTINCT, for an inequality
+and where nothing moves apart, the numbers of answers differ between any two sets. All sets are tried up to 2^6, 64 random
 ones above, and some families of 1,000 rows are tried at random places. Queries that have no family,
 and scripts that are refused, are tried too. `lower N` makes no family for a refusal by C3. A compact
 query is refused where its whole form does not fit and a part of its split form breaks a condition. A
@@ -239,7 +239,7 @@ def try_family(part, script, failure, family):
     """Tries a family by the definition that its condition has."""
     size, own = len(family.rows), script.statement.streams[failure[2][0]]
     places = range(size) if size < LARGE_SIZE else part.random.sample(range(size), LARGE_PLACES)
-    if failure[1] != "C3" or script.query.distinct:
+    if not goes_by_counts(script.query, failure):
         if size < LARGE_SIZE:
             tell(part, script, failure, family, places)
         else:
@@ -259,6 +259,11 @@ def try_family(part, script, failure, family):
 def may_move(query, failure):
     """Whether the rows may be those of the whole query, that move in equal steps, of any stream."""
     return failure[1] != "C1" and (goes_by_form(query) or not has_plain_family(query, failure[1]))
+
+
+def goes_by_counts(query, failure):
+    """Whether the numbers of answers tell any two sets apart, and not what asks for a number whether it is in the set."""
+    return not query.distinct and (failure[1] == "C3" or may_move(query, failure) and "apart" not in moving.ways(query))
 
 
 def shown_failure(script, failure, head, size):

@@ -66,4 +66,4 @@ def ways(query):
 
 def has_rows(query, condition):
     """Whether rows that move show that a condition is broken."""
-    return bool(ways(query) & {"C1": {"selected"}, "C2": {"apart"}, "C3": {"apart", "counted", "unequal"}}[condition])
+    return bool(ways(query) & ({"selected"} if condition == "C1" else {"apart", "counted", "unequal"}))

@@ -10,9 +10,10 @@ def is_proved(status, output):
     return status == 0 and bool(re.search(r"^only=(\d+) proved=\1$", output, re.M))
 
 
-def home_of(function):
-    """Returns the folder of a function's proof files: for `a::T::f` proofs/a/T/f."""
-    return "proofs/" + function.replace("::", "/")
+def homes_of(function):
+    """Returns the folders of a function's proof files, written by hand and by a tactic: for `a::T::f` proofs/a/T/f and proofs/a/T/+f."""
+    *above, name = function.split("::")
+    return tuple("/".join(["proofs", *above, last, ""]) for last in (name, "+" + name))
 
 
 def refusals(output, files, function):
@@ -20,7 +21,7 @@ def refusals(output, files, function):
     found = []
     for line in output.split("\n"):
         place = re.match(r"(?:note: )?(?:\./)?((?:src|specs|proofs)/[^:]*):\d+:\d+: ", line)
-        is_own = place and (place[1] in files or place[1].startswith(home_of(function) + "/"))
+        is_own = place and (place[1] in files or place[1].startswith(homes_of(function)))
         if is_own and not NAMES.search(line) and ("error" in line or "it is not proved that" in line):
             found.append(line)
     return found

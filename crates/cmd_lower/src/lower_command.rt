@@ -112,8 +112,8 @@ fn end_done<O: Sink>(lowered: &Lowered, form: LowerForm, output: &mut O) -> Stat
 }
 
 /// Reads a script to the end of the source, and writes a family of rows of one stream for its query, as many as the form asks for, with the rows
-/// that ask for each of them. Whatever set of these rows came before, the answers to the rows that ask tell the set: where C3 refuses a query without
-/// DISTINCT, any two sets by how many answers there are. So whatever answers the query has to tell 2^n histories apart.
+/// that ask for each of them. Whatever set of these rows came before, the answers to the rows that ask tell the set: without
+/// DISTINCT, where C2 or C3 refuses the query, it may be how many answers there are that tells any two sets apart. So whatever answers the query has to tell 2^n histories apart.
 ///
 /// The family is for the first condition that the query breaks; of a compact one that is no filter, for the first that its split form breaks. Its rows may be of
 /// another stream than the column at fault where they move in equal steps: such rows are sought of a compact query, and of each where the form asks for all three

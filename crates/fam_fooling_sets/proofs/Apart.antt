@@ -66,13 +66,13 @@ inequalities-tell q s a n f within several there local stream size many asks mad
                 | inr k ↦ ap (λ (x : ℕ). slice_index_or marks x false) k ∙ m.mark
               ]
             ]
-    by (later d l) = counts refl d several (told-later q within several a there n f stream size asks (satisfying q s a n f made) (λ i j o m.
+    by (later d l) = counts (λ o. absurd cc) d several (told-later q within several a there n f stream size asks (satisfying q s a n f made) (λ i j o m.
         adds-nothing q within several a there n f stream size asks (satisfying q s a n f made) i (before i j n o m) j m (λ h.
         later-fails q s a.stream n made.at l i j o m (mix-part q within several a there n f stream size asks (satisfying q s a n f made) [] i (before i j n o m) s made.inside local j m _ (λ b r. refl) h))))
       where
         before : (i j n : ℕ) → i < j → j < n → i < n
         before i j n l m = omega (arith, l, m)
-    by (earlier d e) = counts refl d several (told-earlier q within several a there n f stream size asks (satisfying q s a n f made) (λ i j o m.
+    by (earlier d e) = counts (λ o. absurd cc) d several (told-earlier q within several a there n f stream size asks (satisfying q s a n f made) (λ i j o m.
         adds-nothing q within several a there n f stream size asks (satisfying q s a n f made) i m j (before i j n o m) (λ h.
         earlier-fails q s a.stream n made.at e i j o m (mix-part q within several a there n f stream size asks (satisfying q s a n f made) [] i m s made.inside local j (before i j n o m) _ (λ b r. refl) h))))
       where

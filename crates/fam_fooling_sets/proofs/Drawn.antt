@@ -1,5 +1,5 @@
 -- What is drawn from values that satisfy the query is a family where these stay apart.
-use Rattle.std.proofs.Common.{◌≡◌, ℕ, suc, ◌<◌, ◌≤◌, ◌⊎◌, inl, inr, nat_eq, nat_lt, List, [], length, cond, Bool, true, false, refl, sym, ap, ◌∙◌, subst, arith, ℤ, pos, slice_index_or, FitsSigned, w64, Contains, IsFalse}
+use Rattle.std.proofs.Common.{◌≡◌, ℕ, suc, ◌<◌, ◌≤◌, ◌⊎◌, inl, inr, nat_eq, nat_lt, List, [], length, cond, Bool, true, false, sym, ap, ◌∙◌, subst, arith, ℤ, pos, slice_index_or, FitsSigned, w64, Contains, IsFalse}
 use Rattle.std.specs.Prelude.{if◌then◌else◌}
 use Rattle.std.proofs.lemmas.Int.{ints}
 use Rattle.std.proofs.lemmas.Bool.Decides.{nat_tests}
@@ -8,7 +8,7 @@ use Rattle.arrayvec.specs.ArrayVec.{ArrayVec as Items}
 use Rattle.sem_query.specs.declared.atom.Attr.{Attr}
 use Rattle.sem_query.specs.declared.atom.Domain.{Domain}
 use Rattle.sem_query.specs.declared.condition.Condition.{Condition}
-use Rattle.sem_query.specs.declared.condition.Condition.TheVariants.{C1, C2, C3}
+use Rattle.sem_query.specs.declared.condition.Condition.TheVariants.{C1}
 use Rattle.sem_query.specs.Query.{QueryValue, attrs_of, is_filter, IsWithinLimits}
 use Rattle.sem_query.specs.Assignment.{Assignment, lies_in, Holds}
 use Rattle.sem_query.proofs.Has.{Has, Has-from_contains, Contains-from_has}
@@ -28,7 +28,7 @@ use Rattle.fam_fooling_sets.specs.Drawing.{drawn_value, AreDrawnMembers, IsOpenI
 use Rattle.fam_fooling_sets.proofs.Cells.{nodes-at, far-fits}
 use Rattle.fam_fooling_sets.proofs.Telling.{holds-same}
 use Rattle.fam_fooling_sets.proofs.Made.{AreDrawn, IsGroundFor, drawn-solutions, drawn-at, drawn-agree, drawn-asks, drawn-like}
-use Rattle.fam_fooling_sets.proofs.Mixing.{different-values-tell, apart-tell, apart-tell-equal}
+use Rattle.fam_fooling_sets.proofs.Mixing.{different-values-tell, apart-tell}
 
 before : (x y : ℕ) → (x < y) ⊎ (y ≤ x)
 before x y = grind arith
@@ -162,32 +162,25 @@ module _ (q : QueryValue) (a : Attr) (blanks : List (List ℤ)) (all : List (Ite
   in-from c = (query_within q is.within).atoms a c
 
   pub kept-apart : (condition : Condition) (n : ℕ) → (condition ≡ C1 → ⊥) → 1 < length q.from → Contains (attrs_of q.atoms) a → AreApart q a.stream n all → IsFamilyLike q blanks condition a n f
-  kept-apart condition n not_first several c apart = subst (λ (m : ℕ). IsFamilyLike q blanks condition a m f) apart.solutions.many (by condition not_first)
-    where
-      by : (condition : Condition) → (condition ≡ C1 → ⊥) → IsFamilyLike q blanks condition a (length all) f
-      by C1 o = absurd (o refl)
-      by C2 o = record {
-        read = inl c;
-        family = apart-tell-equal q a (length all) f is.within several (in-from c) is.stream is.size is.many is.asks is.made (later-fail apart.later) (earlier-fail apart.earlier);
-        like = is.like;
-      }
-      by C3 o = record {
-        read = inl c;
-        family = apart-tell q a (length all) f is.within several (in-from c) is.stream is.size is.many is.asks is.made (both (later-fail apart.later) (earlier-fail apart.earlier));
-        like = is.like;
-      }
-
-  pub kept-apart-once : (n : ℕ) → IsFalse q.distinct → 1 < length q.from → Contains (attrs_of q.atoms) a → AreApartOnce q a.stream n all → IsFamilyLike q blanks C3 a n f
-  kept-apart-once n plain several c once = subst (λ (m : ℕ). IsFamilyLike q blanks C3 a m f) once.solutions.many record {
+  kept-apart condition n not_first several c apart = subst (λ (m : ℕ). IsFamilyLike q blanks condition a m f) apart.solutions.many record {
     read = inl c;
-    family = apart-tell q a (length all) f is.within several (in-from c) is.stream is.size is.many is.asks is.made (elim once.apart [ inl l ↦ later plain (later-fail l) | inr e ↦ earlier plain (earlier-fail e) ]);
+    family = apart-tell q condition a (length all) f not_first is.within several (in-from c) is.stream is.size is.many is.asks is.made (both (later-fail apart.later) (earlier-fail apart.earlier));
     like = is.like;
   }
 
-  pub kept-apart-as-next : (n : ℕ) → IsFalse q.distinct → 1 < length q.from → Contains (attrs_of q.atoms) a → AreApartAsNext q a.stream n all → IsFamilyLike q blanks C3 a n f
-  kept-apart-as-next n plain several c found = subst (λ (m : ℕ). IsFamilyLike q blanks C3 a m f) found.solutions.many record {
+  pub kept-apart-once : (condition : Condition) (n : ℕ) → (condition ≡ C1 → ⊥) → IsFalse q.distinct → 1 < length q.from → Contains (attrs_of q.atoms) a → AreApartOnce q a.stream n all
+      → IsFamilyLike q blanks condition a n f
+  kept-apart-once condition n not_first plain several c once = subst (λ (m : ℕ). IsFamilyLike q blanks condition a m f) once.solutions.many record {
     read = inl c;
-    family = apart-tell q a (length all) f is.within several (in-from c) is.stream is.size is.many is.asks is.made (next plain (next-fail found.next));
+    family = apart-tell q condition a (length all) f not_first is.within several (in-from c) is.stream is.size is.many is.asks is.made (elim once.apart [ inl l ↦ later plain (later-fail l) | inr e ↦ earlier plain (earlier-fail e) ]);
+    like = is.like;
+  }
+
+  pub kept-apart-as-next : (condition : Condition) (n : ℕ) → (condition ≡ C1 → ⊥) → IsFalse q.distinct → 1 < length q.from → Contains (attrs_of q.atoms) a → AreApartAsNext q a.stream n all
+      → IsFamilyLike q blanks condition a n f
+  kept-apart-as-next condition n not_first plain several c found = subst (λ (m : ℕ). IsFamilyLike q blanks condition a m f) found.solutions.many record {
+    read = inl c;
+    family = apart-tell q condition a (length all) f not_first is.within several (in-from c) is.stream is.size is.many is.asks is.made (next plain (next-fail found.next));
     like = is.like;
   }
 

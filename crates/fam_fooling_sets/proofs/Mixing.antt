@@ -2,6 +2,7 @@
 use Rattle.std.proofs.Common.{◌≡◌, ℕ, suc, ◌<◌, ◌⊎◌, inl, inr, nat_eq, not, ◌&&◌, Bool, true, false, refl, ap, ◌∙◌, arith, List, ◌++◌, length, ℤ, slice_index_or, Contains}
 use Rattle.std.proofs.lemmas.Bool.Decides.{nat_tests}
 use Rattle.sem_query.specs.declared.atom.Attr.{Attr}
+use Rattle.sem_query.specs.declared.condition.Condition.{Condition}
 use Rattle.sem_query.specs.declared.condition.Condition.TheVariants.{C1, C2, C3}
 use Rattle.sem_query.specs.Query.{QueryValue, attrs_of, IsWithinLimits}
 use Rattle.sem_query.specs.Assignment.{projected, Holds}
@@ -10,7 +11,7 @@ use Rattle.sem_query.proofs.Has.{Contains-from_has}
 use Rattle.fam_fooling_sets.specs.Family.{FamilyValue, history_of, asking_at, Shows, some, any, Tells, each, counts, Asks}
 use Rattle.fam_motions.specs.Apart.{mixture, LaterMixesFail, EarlierMixesFail, StayApart, both, later, earlier, next}
 use Rattle.fam_fooling_sets.specs.Making.{HasSolutions}
-use Rattle.fam_fooling_sets.specs.Laws.{DifferentValuesTell, ApartTell, ApartTellEqual}
+use Rattle.fam_fooling_sets.specs.Laws.{DifferentValuesTell, ApartTell}
 use Rattle.fam_fooling_sets.proofs.Telling.{own_combination, own-answer, mixed, holds-same, tells-value}
 use Rattle.fam_fooling_sets.proofs.TellingAlone.{tells-alone}
 use Rattle.fam_fooling_sets.proofs.Counting.{adds-nothing, adds-one, told-later, told-earlier, told-as-next}
@@ -63,21 +64,14 @@ module _ (q : QueryValue) (within : IsWithinLimits q) (several : 1 < length q.fr
         ]
       ]
 
-  tells-third : StayApart q a.stream n made.at → Tells q C3 a n f
-  tells-third (both l e) = each (λ marks long i below. (
+  tells-third : LaterMixesFail q a.stream n made.at → EarlierMixesFail q a.stream n made.at → Tells q C3 a n f
+  tells-third l e = each (λ marks long i below. (
     λ mark. any several (projected q (assignment_of (own_combination q within several a there n f stream size asks made marks i below))) (own-answer q within several a there n f stream size asks made marks i below mark),
     λ shows. back marks i below shows,
   ))
     where
       back : (marks : List Bool) (i : ℕ) → i < n → Shows q a f marks i C3 → slice_index_or marks i false ≡ true
       back marks i below (any k t c) = of-itself l e marks i below t c
-  tells-third (later d l) = counts refl d several (told-later q within several a there n f stream size asks made (λ i j o m.
-      adds-nothing q within several a there n f stream size asks made i (before i j n o m) j m (l i j o m)))
-  tells-third (earlier d e) = counts refl d several (told-earlier q within several a there n f stream size asks made (λ i j o m.
-      adds-nothing q within several a there n f stream size asks made i m j (before j i n o m) (e j i o m)))
-  tells-third (next d h) = counts refl d several (told-as-next q within several a there n f stream size asks made
-      (λ i m. adds-nothing q within several a there n f stream size asks made i (shorter i n m) (suc i) m ((h i (suc i) (shorter i n m) m).fails refl))
-      (λ i j l m o. adds-one q within several a there n f stream size asks made i l j m ((h i j l m).holds o)))
 
   tells-second : LaterMixesFail q a.stream n made.at → EarlierMixesFail q a.stream n made.at → Tells q C2 a n f
   tells-second l e = each (λ marks long i below. (
@@ -88,20 +82,26 @@ module _ (q : QueryValue) (within : IsWithinLimits q) (several : 1 < length q.fr
       back : (marks : List Bool) (i : ℕ) → i < n → Shows q a f marks i C2 → slice_index_or marks i false ≡ true
       back marks i below (some k t c) = of-itself l e marks i below t c
 
-pub apart-tell : ApartTell
-apart-tell q a n f within several there stream size many asks made apart = record {
-  stream = stream;
-  size = size;
-  many = many;
-  asks = asks;
-  tells = tells-third q within several a there n f stream size asks made apart;
-}
+  tells-both : (c : Condition) → (c ≡ C1 → ⊥) → LaterMixesFail q a.stream n made.at → EarlierMixesFail q a.stream n made.at → Tells q c a n f
+  tells-both C1 o l e = absurd (o refl)
+  tells-both C2 o l e = tells-second l e
+  tells-both C3 o l e = tells-third l e
 
-pub apart-tell-equal : ApartTellEqual
-apart-tell-equal q a n f within several there stream size many asks made l e = record {
+  tells : (c : Condition) → (c ≡ C1 → ⊥) → StayApart q a.stream n made.at → Tells q c a n f
+  tells c o (both l e) = tells-both c o l e
+  tells c o (later d l) = counts o d several (told-later q within several a there n f stream size asks made (λ i j k m.
+      adds-nothing q within several a there n f stream size asks made i (before i j n k m) j m (l i j k m)))
+  tells c o (earlier d e) = counts o d several (told-earlier q within several a there n f stream size asks made (λ i j k m.
+      adds-nothing q within several a there n f stream size asks made i m j (before j i n k m) (e j i k m)))
+  tells c o (next d h) = counts o d several (told-as-next q within several a there n f stream size asks made
+      (λ i m. adds-nothing q within several a there n f stream size asks made i (shorter i n m) (suc i) m ((h i (suc i) (shorter i n m) m).fails refl))
+      (λ i j l m k. adds-one q within several a there n f stream size asks made i l j m ((h i j l m).holds k)))
+
+pub apart-tell : ApartTell
+apart-tell q condition a n f not_first within several there stream size many asks made apart = record {
   stream = stream;
   size = size;
   many = many;
   asks = asks;
-  tells = tells-second q within several a there n f stream size asks made l e;
+  tells = tells q within several a there n f stream size asks made condition not_first apart;
 }

@@ -54,11 +54,11 @@ pub record AreToldApart (q : QueryValue) (n : ℕ) (f : FamilyValue) (left right
   pub below : number < n
   pub differ : length (answers q (history_of f left ++ asking_at f number)) ≢ length (answers q (history_of f right ++ asking_at f number))
 
--- Whatever set of the rows came before, what asks for a number tells whether it is in the set. For an unbounded inequality without DISTINCT it is
--- enough that any two different sets are told apart.
+-- Whatever set of the rows came before, what asks for a number tells whether it is in the set. For an unbounded equality or inequality without
+-- DISTINCT it is enough that any two different sets are told apart.
 pub data Tells (q : QueryValue) (condition : Condition) (a : Attr) (n : ℕ) (f : FamilyValue) : Type 0 where
   each : ((marks : List Bool) → length marks ≡ n → (i : ℕ) → i < n → (slice_index_or marks i false ≡ true) ↔ Shows q a f marks i condition) → Tells q condition a n f
-  counts : condition ≡ C3 → IsFalse q.distinct → 1 < length q.from
+  counts : (condition ≡ C1 → ⊥) → IsFalse q.distinct → 1 < length q.from
       → ((left right : List Bool) → length left ≡ n → length right ≡ n → left ≢ right → AreToldApart q n f left right) → Tells q condition a n f
 
 -- what asks for a row: over one stream the row itself, over several no row of its stream

@@ -11,7 +11,7 @@ use Rattle.sem_query.specs.Query.{QueryValue, is_filter, IsWithinLimits}
 use Rattle.sem_query.specs.Parts.{pairs, same_stream}
 use Rattle.sem_query.specs.Violation.{Breaks}
 use Rattle.fam_fooling_sets.specs.Family.{FamilyValue, IsFamily, Asks}
-use Rattle.fam_motions.specs.Apart.{Differ, LaterMixesFail, EarlierMixesFail, StayApart}
+use Rattle.fam_motions.specs.Apart.{Differ, StayApart}
 use Rattle.fam_fooling_sets.specs.Making.{HasSolutions, IsMade, KeepsApart}
 use Rattle.std.specs.List.{slice_index_or}
 use Rattle.std.specs.Prelude.{true, ⊤, IsFalse}
@@ -64,18 +64,10 @@ DifferentValuesTell =
     → f.stream ≡ slice_index_or q.from a.stream 0 → length f.rows ≡ n → length f.asking ≡ n → ((i : ℕ) → i < n → Asks q f i)
     → (made : HasSolutions q a.stream n f) → Differ n made.at a → IsFamily q C1 a n f
 
--- over several streams, rows of assignments that satisfy the query are a family for an unbounded inequality where no mixtures do
+-- over several streams, rows of assignments that satisfy the query are a family for an unbounded equality or inequality where no mixtures do
 abbrev pub ApartTell : Type 0
 ApartTell =
-    (q : QueryValue) (a : Attr) (n : ℕ) (f : FamilyValue)
-    → IsWithinLimits q → 1 < length q.from → a.stream < length q.from
+    (q : QueryValue) (condition : Condition) (a : Attr) (n : ℕ) (f : FamilyValue)
+    → (condition ≡ C1 → ⊥) → IsWithinLimits q → 1 < length q.from → a.stream < length q.from
     → f.stream ≡ slice_index_or q.from a.stream 0 → length f.rows ≡ n → length f.asking ≡ n → ((i : ℕ) → i < n → Asks q f i)
-    → (made : HasSolutions q a.stream n f) → StayApart q a.stream n made.at → IsFamily q C3 a n f
-
--- and for an unbounded equality where no mixtures of either kind do
-abbrev pub ApartTellEqual : Type 0
-ApartTellEqual =
-    (q : QueryValue) (a : Attr) (n : ℕ) (f : FamilyValue)
-    → IsWithinLimits q → 1 < length q.from → a.stream < length q.from
-    → f.stream ≡ slice_index_or q.from a.stream 0 → length f.rows ≡ n → length f.asking ≡ n → ((i : ℕ) → i < n → Asks q f i)
-    → (made : HasSolutions q a.stream n f) → LaterMixesFail q a.stream n made.at → EarlierMixesFail q a.stream n made.at → IsFamily q C2 a n f
+    → (made : HasSolutions q a.stream n f) → StayApart q a.stream n made.at → IsFamily q condition a n f

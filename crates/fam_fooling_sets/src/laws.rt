@@ -1,5 +1,5 @@
 //! The laws, as public functions without a body.
-ghost use Rattle.fam_fooling_sets.specs.Laws.{ApartTell, ApartTellEqual, DifferentValuesTell, FamiliesTell, FamiliesTellAlone, InequalitiesTell};
+ghost use Rattle.fam_fooling_sets.specs.Laws.{ApartTell, DifferentValuesTell, FamiliesTell, FamiliesTellAlone, InequalitiesTell};
 ghost use Rattle.fam_fooling_sets.specs.Worth.{FamiliesNeedStates};
 
 /// What is made from assignments of a part that breaks one of the first two conditions, with different values at the column, is a family.
@@ -22,15 +22,10 @@ pub fn different_values_tell()
     ensures { DifferentValuesTell }
 {}
 
-/// What is made from assignments that satisfy a query, and of which no mixtures do, is a family for an unbounded inequality; without DISTINCT it is enough that
-/// mixtures of one kind do not.
+/// What is made from assignments that satisfy a query, and of which no mixtures do, is a family for an unbounded equality or inequality; without DISTINCT it is
+/// enough that mixtures of one kind do not, or those of the next number alone.
 pub fn apart_tell()
     ensures { ApartTell }
-{}
-
-/// Where mixtures of neither kind do, it is a family for an unbounded equality, too.
-pub fn apart_tell_equal()
-    ensures { ApartTellEqual }
 {}
 
 /// Whatever keeps of each history one of fewer than 2^n numbers, and answers by that and by what came since, answers wrong after some set of the

@@ -195,16 +195,20 @@ fn by_mixtures(
 fn by_one_kind(
     alloc: Global,
     q: &Query,
+    condition: Condition,
     attr: Attr,
     blanks: &[Row],
     n: u16,
 ) -> Result<Option<Family>, AllocError>
+    requires inequality { ¬ (condition ≡ C1) }
     requires plain { IsFalse q.now.distinct }
     requires several { 1 < length q.now.from }
     requires named { Contains (attrs_of q.now.atoms) attr }
     requires blanks { AreBlanks q.now (rows_in blanks.now) }
-    ensures { IfOk result (λ found. IfSome found (IsFamilyLike q.now (rows_in blanks.now) C3 attr n)) }
+    ensures { IfOk result (λ found. IfSome found (IsFamilyLike q.now (rows_in blanks.now) condition attr n)) }
 {
+    // Named for the proof alone: the contract speaks of it.
+    let _condition = condition;
     match apart_once(alloc, q, attr.stream, n)? {
         Some(all) => Ok(Some(drawn(alloc, q, attr, blanks, &all)?)),
         None => Ok(None),
@@ -215,23 +219,35 @@ fn by_one_kind(
 fn by_next(
     alloc: Global,
     q: &Query,
+    condition: Condition,
     attr: Attr,
     blanks: &[Row],
     n: u16,
 ) -> Result<Option<Family>, AllocError>
+    requires inequality { ¬ (condition ≡ C1) }
     requires plain { IsFalse q.now.distinct }
     requires several { 1 < length q.now.from }
     requires named { Contains (attrs_of q.now.atoms) attr }
     requires blanks { AreBlanks q.now (rows_in blanks.now) }
-    ensures { IfOk result (λ found. IfSome found (IsFamilyLike q.now (rows_in blanks.now) C3 attr n)) }
+    ensures { IfOk result (λ found. IfSome found (IsFamilyLike q.now (rows_in blanks.now) condition attr n)) }
 {
+    // Named for the proof alone: the contract speaks of it.
+    let _condition = condition;
     match apart_as_next(alloc, q, attr.stream, n)? {
         Some(all) => Ok(Some(drawn(alloc, q, attr, blanks, &all)?)),
         None => Ok(None),
     }
 }
 
-// A family for a column of which mixtures fail: those of both kinds, or for an unbounded inequality without DISTINCT those of one, or of the next number.
+/// Which mixtures of assignments fail: those of both kinds, those of one kind, or those of the next number alone.
+#[derive(Clone, Copy)]
+enum Failing {
+    Both,
+    One,
+    Next,
+}
+
+// A family for a column of which these mixtures fail. With DISTINCT it takes both kinds.
 fn by_failing(
     alloc: Global,
     q: &Query,
@@ -239,7 +255,7 @@ fn by_failing(
     attr: Attr,
     blanks: &[Row],
     n: u16,
-    next: bool,
+    failing: Failing,
 ) -> Result<Option<Family>, AllocError>
     requires inequality { ¬ (condition ≡ C1) }
     requires several { 1 < length q.now.from }
@@ -247,16 +263,17 @@ fn by_failing(
     requires blanks { AreBlanks q.now (rows_in blanks.now) }
     ensures { IfOk result (λ found. IfSome found (IsFamilyLike q.now (rows_in blanks.now) condition attr n)) }
 {
-    if q.distinct() {
-        return by_mixtures(alloc, q, condition, attr, blanks, n);
-    }
-    match condition {
-        Condition::C1 => Ok(None),
-        Condition::C2 => by_mixtures(alloc, q, condition, attr, blanks, n),
-        Condition::C3 => if next {
-            by_next(alloc, q, attr, blanks, n)
+    match failing {
+        Failing::Both => by_mixtures(alloc, q, condition, attr, blanks, n),
+        Failing::One => if q.distinct() {
+            Ok(None)
         } else {
-            by_one_kind(alloc, q, attr, blanks, n)
+            by_one_kind(alloc, q, condition, attr, blanks, n)
+        },
+        Failing::Next => if q.distinct() {
+            Ok(None)
+        } else {
+            by_next(alloc, q, condition, attr, blanks, n)
         },
     }
 }
@@ -269,7 +286,7 @@ fn by_column(
     attr: Attr,
     blanks: &[Row],
     n: u16,
-    next: bool,
+    failing: Failing,
 ) -> Result<Option<FoundFamily>, AllocError>
     requires inequality { ¬ (condition ≡ C1) }
     requires blanks { AreBlanks q.now (rows_in blanks.now) }
@@ -281,7 +298,7 @@ fn by_column(
     if q.from().len() < 2 {
         return Ok(None);
     }
-    match by_failing(alloc, q, condition, attr, blanks, n, next)? {
+    match by_failing(alloc, q, condition, attr, blanks, n, failing)? {
         Some(family) => Ok(Some(FoundFamily { attr, family })),
         None => Ok(None),
     }
@@ -295,7 +312,7 @@ fn by_others(
     attr: Attr,
     blanks: &[Row],
     n: u16,
-    next: bool,
+    failing: Failing,
 ) -> Result<Option<FoundFamily>, AllocError>
     requires inequality { ¬ (condition ≡ C1) }
     requires blanks { AreBlanks q.now (rows_in blanks.now) }
@@ -303,7 +320,7 @@ fn by_others(
 {
     for other in q.attrs() {
         if other.stream != attr.stream {
-            match by_column(alloc, q, condition, *other, blanks, n, next)? {
+            match by_column(alloc, q, condition, *other, blanks, n, failing)? {
                 Some(found) => return Ok(Some(found)),
                 None => {}
             }
@@ -320,20 +337,58 @@ fn by_columns(
     attr: Attr,
     blanks: &[Row],
     n: u16,
-    next: bool,
+    failing: Failing,
 ) -> Result<Option<FoundFamily>, AllocError>
     requires inequality { ¬ (condition ≡ C1) }
     requires blanks { AreBlanks q.now (rows_in blanks.now) }
     ensures { IfOk result (λ found. IfSome found (IsFoundFor q.now (rows_in blanks.now) condition n)) }
 {
-    match by_column(alloc, q, condition, attr, blanks, n, next)? {
+    match by_column(alloc, q, condition, attr, blanks, n, failing)? {
         Some(found) => Ok(Some(found)),
-        None => by_others(alloc, q, condition, attr, blanks, n, next),
+        None => by_others(alloc, q, condition, attr, blanks, n, failing),
     }
 }
 
-// The same for an unbounded inequality: without DISTINCT at last one of which the mixtures of the next number fail.
-fn by_one_or_next(
+// The same where mixtures of one kind fail, or else those of the next number.
+fn by_counts(
+    alloc: Global,
+    q: &Query,
+    condition: Condition,
+    attr: Attr,
+    blanks: &[Row],
+    n: u16,
+) -> Result<Option<FoundFamily>, AllocError>
+    requires inequality { ¬ (condition ≡ C1) }
+    requires blanks { AreBlanks q.now (rows_in blanks.now) }
+    ensures { IfOk result (λ found. IfSome found (IsFoundFor q.now (rows_in blanks.now) condition n)) }
+{
+    match by_columns(alloc, q, condition, attr, blanks, n, Failing::One)? {
+        Some(found) => Ok(Some(found)),
+        None => by_columns(alloc, q, condition, attr, blanks, n, Failing::Next),
+    }
+}
+
+// The same where mixtures of both kinds fail, or else as without DISTINCT the numbers of answers tell sets apart.
+fn by_mixtures_or_counts(
+    alloc: Global,
+    q: &Query,
+    condition: Condition,
+    attr: Attr,
+    blanks: &[Row],
+    n: u16,
+) -> Result<Option<FoundFamily>, AllocError>
+    requires inequality { ¬ (condition ≡ C1) }
+    requires blanks { AreBlanks q.now (rows_in blanks.now) }
+    ensures { IfOk result (λ found. IfSome found (IsFoundFor q.now (rows_in blanks.now) condition n)) }
+{
+    match by_columns(alloc, q, condition, attr, blanks, n, Failing::Both)? {
+        Some(found) => Ok(Some(found)),
+        None => by_counts(alloc, q, condition, attr, blanks, n),
+    }
+}
+
+// The same for an unbounded inequality. Where both kinds fail, so does one, so without DISTINCT both are not asked for.
+fn by_inequality(
     alloc: Global,
     q: &Query,
     attr: Attr,
@@ -343,14 +398,10 @@ fn by_one_or_next(
     requires blanks { AreBlanks q.now (rows_in blanks.now) }
     ensures { IfOk result (λ found. IfSome found (IsFoundFor q.now (rows_in blanks.now) C3 n)) }
 {
-    match by_columns(alloc, q, Condition::C3, attr, blanks, n, false)? {
-        Some(found) => return Ok(Some(found)),
-        None => {}
+    if q.distinct() {
+        return by_columns(alloc, q, Condition::C3, attr, blanks, n, Failing::Both);
     }
-    if !q.distinct() {
-        return by_columns(alloc, q, Condition::C3, attr, blanks, n, true);
-    }
-    Ok(None)
+    by_counts(alloc, q, Condition::C3, attr, blanks, n)
 }
 
 /// Returns a family of n rows for a condition that is broken at a column, or none where none is found: for an unbounded selected column at that column, and else
@@ -374,7 +425,7 @@ pub fn moved_family(
             Some(family) => Ok(Some(FoundFamily { attr, family })),
             None => Ok(None),
         },
-        Condition::C2 => by_columns(alloc, q, condition, attr, blanks, n, false),
-        Condition::C3 => by_one_or_next(alloc, q, attr, blanks, n),
+        Condition::C2 => by_mixtures_or_counts(alloc, q, condition, attr, blanks, n),
+        Condition::C3 => by_inequality(alloc, q, attr, blanks, n),
     }
 }
