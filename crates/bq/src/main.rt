@@ -15,7 +15,29 @@ use std::io::ErrorKind;
 use std::process::ExitCode;
 
 fn main(rt: HostRuntime) -> ExitCode {
-    ExitCode::from(status(&rt).number())
+    let words = match words(&rt) {
+        Ok(words) => words,
+        Err(Status::Usage) => {
+            tell_usage(&mut StdSink::new(rt.stderr()));
+            return ExitCode::from(Status::Usage.number());
+        }
+        Err(status) => return ExitCode::from(status.number()),
+    };
+    let Ok(mut files) = files(&rt, &words) else {
+        return ExitCode::from(Status::Memory.number());
+    };
+    let mut input = StdSource::new(rt.stdin());
+    let mut output = StdSink::new(rt.stdout());
+    let mut errors = StdSink::new(rt.stderr());
+    let status = serve(
+        rt.alloc(),
+        &words,
+        &mut input,
+        &mut files,
+        &mut output,
+        &mut errors,
+    );
+    ExitCode::from(status.number())
 }
 
 // The words after the program's name. A word that is no text is wrong usage.
@@ -76,36 +98,4 @@ fn push_file<'a>(
         return Err(AllocError);
     }
     Ok(())
-}
-
-// How the program over the process's words, files, input and output ended.
-fn run_words(rt: &HostRuntime, words: &[String]) -> Status {
-    match files(rt, words) {
-        Ok(mut files) => {
-            let mut input = StdSource::new(rt.stdin());
-            let mut output = StdSink::new(rt.stdout());
-            let mut errors = StdSink::new(rt.stderr());
-            serve(
-                rt.alloc(),
-                words,
-                &mut input,
-                &mut files,
-                &mut output,
-                &mut errors,
-            )
-        }
-        Err(_) => Status::Memory,
-    }
-}
-
-// How the program ended.
-fn status(rt: &HostRuntime) -> Status {
-    match words(rt) {
-        Ok(words) => run_words(rt, &words),
-        Err(Status::Usage) => {
-            tell_usage(&mut StdSink::new(rt.stderr()));
-            Status::Usage
-        }
-        Err(status) => status,
-    }
 }

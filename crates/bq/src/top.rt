@@ -3,9 +3,8 @@ ghost use Rattle.std.specs.Prelude.{◌≡◌, ◌≤◌, map};
 ghost use Rattle.std.specs.String.{string_bytes};
 ghost use Rattle.io_streams.specs.Counts.{Rose};
 ghost use Rattle.cmd_session.specs.Run.{IsNoFault};
-ghost use Rattle.cmd_feeds.specs.FeedsEnd.{FeedsEnd};
 ghost use Rattle.cmd_dispatch.specs.Files.{NoneFell, SomeRose};
-ghost use Rattle.bq.specs.Serve.{asks_feeds, file_name, file_place, Served, Serves};
+ghost use Rattle.bq.specs.Serve.{asks_feeds, file_name, file_place, Served};
 
 use crate::errors::tell;
 use cmd_dispatch::{Ended, run};
@@ -53,48 +52,6 @@ fn file_name(words: &[String]) -> &[u8]
     }
 }
 
-// How a session over the feeds ended.
-fn run_on_feeds<F: Source, O: Sink>(
-    alloc: Global,
-    words: &[String],
-    feeds: &mut [F],
-    output: &mut O,
-) -> Ended
-    ensures ends { FeedsEnd result.status result.file_failed words.now (map F.seen feeds.old) (map F.seen feeds.new) (O.seen output.old) (O.seen output.new) }
-    ensures complete { ¬ (SomeRose (map F.seen feeds.old) (map F.seen feeds.new)) → ¬ (Rose (O.seen output.old).faults (O.seen output.new).faults) → IsNoFault result.status }
-    ensures feeds_later { NoneFell (map F.seen feeds.old) (map F.seen feeds.new) }
-    ensures output_later { (O.seen output.old).faults ≤ (O.seen output.new).faults }
-{
-    let ending = run_feeds(alloc, words, feeds, output);
-    Ended {
-        status: ending.status,
-        file_failed: ending.script_failed,
-    }
-}
-
-// Does what the words ask for, and says how that ended.
-fn end_words<I: Source, F: Source, O: Sink>(
-    alloc: Global,
-    words: &[String],
-    input: &mut I,
-    feeds: &mut [F],
-    output: &mut O,
-) -> Ended
-    ensures serves { Serves (asks_feeds (map string_bytes words.now)) result.status result.file_failed words.now (I.seen input.old) (I.seen input.new)
-        (map F.seen feeds.old) (map F.seen feeds.new) (O.seen output.old) (O.seen output.new) }
-    ensures complete { ¬ (Rose (I.seen input.old).faults (I.seen input.new).faults) → ¬ (SomeRose (map F.seen feeds.old) (map F.seen feeds.new))
-        → ¬ (Rose (O.seen output.old).faults (O.seen output.new).faults) → IsNoFault result.status }
-    ensures input_later { (I.seen input.old).faults ≤ (I.seen input.new).faults }
-    ensures feeds_later { NoneFell (map F.seen feeds.old) (map F.seen feeds.new) }
-    ensures output_later { (O.seen output.old).faults ≤ (O.seen output.new).faults }
-{
-    if asks_feeds(words) {
-        run_on_feeds(alloc, words, feeds, output)
-    } else {
-        run(alloc, words, input, feeds, output)
-    }
-}
-
 /// Does all that the program does over the words after its name. Where the first word is `feeds` it runs a session over the feeds, as
 /// `run_feeds`, and does not touch the input; otherwise it does what `run` does. `feeds` has the files that the words name: FILE, or the script,
 /// first.
@@ -119,7 +76,16 @@ pub fn serve<I: Source, F: Source, O: Sink, E: Sink>(
     ensures feeds_later { NoneFell (map F.seen feeds.old) (map F.seen feeds.new) }
     ensures output_later { (O.seen output.old).faults ≤ (O.seen output.new).faults }
 {
-    let ended = end_words(alloc, words, input, feeds, output);
+    if asks_feeds(words) {
+        let ending = run_feeds(alloc, words, feeds, output);
+        let ended = Ended {
+            status: ending.status,
+            file_failed: ending.script_failed,
+        };
+        tell(ended, file_name(words), errors);
+        return ended.status;
+    }
+    let ended = run(alloc, words, input, feeds, output);
     tell(ended, file_name(words), errors);
     ended.status
 }

@@ -1,5 +1,5 @@
 -- Rows that are answered one after another, and given behind them.
-use Rattle.std.proofs.Common.{◌≡◌, ℕ, zero, suc, ℤ, ◌+◌, ◌-◌, ◌<◌, ◌≤◌, false, List, [], ◌∷◌, ◌++◌, length, take, drop, length-append, length-drop, length-take, refl, ap, sym, ◌∙◌, subst, arith, IsTrue}
+use Rattle.std.proofs.Common.{◌≡◌, ◌⊎◌, ℕ, ℤ, ◌+◌, ◌-◌, ◌<◌, ◌≤◌, false, List, [], ◌∷◌, ◌++◌, length, take, drop, length-append, length-drop, length-take, refl, ap, sym, ◌∙◌, subst, arith, IsTrue, inl, inr}
 use Rattle.std.specs.Bool.{⊤}
 use Rattle.std.proofs.lemmas.List.{drop-append-le, drop-drop}
 use Rattle.io_streams.specs.Gathered.{gathered_seen}
@@ -128,13 +128,14 @@ none_given : (old new : Reading) (k : SessionValue) (source : SourceState) (belo
 none_given old new k source below held steps how count begin end kept after full now nothing (none h c e a b d n) same = no_row h same a b d n
 none_given old new k source below held steps how count begin end kept after full now nothing (more before start len left between part spent h row t w c e) same = absurd (omega (arith, nothing, c))
 
+-- the lines of rows were given, or there are none and nothing was done
+abbrev pub IsGiven : Reading → Reading → ℕ → ℕ → ℕ → Type 0
+IsGiven old new count begin end = ((0 < count) × GivesAll old new count begin end) ⊎ ((count ≡ 0) × (new ≡ old))
+
 rows_given : (old new : Reading) (k : SessionValue) (source : SourceState) (below : SinkState) (held : List ℕ) (steps : StepsValue) (how : LineOutcome) (count begin end : ℕ) (kept : SessionValue) (after : SinkState) (full : List ℕ) (now : StepsValue)
-    → AreAnswered (old.ahead ++ 10 ∷ []) k below held steps how count begin end kept after full now → (0 < count → GivesAll old new count begin end) → (count ≡ 0 → new ≡ old) → AnswersRows old k source below held steps how new kept after full now
-rows_given old new k source below held steps how count begin end kept after full now h some nothing = by_count count refl
-  where
-    by_count : (n : ℕ) → n ≡ count → AnswersRows old k source below held steps how new kept after full now
-    by_count zero e = none_given old new k source below held steps how count begin end kept after full now (sym e) h (nothing (sym e))
-    by_count (suc n) e = let room : 0 < count = omega (arith, e) in some_given old new k source below held steps how count begin end kept after full now room h (some room)
+    → AreAnswered (old.ahead ++ 10 ∷ []) k below held steps how count begin end kept after full now → IsGiven old new count begin end → AnswersRows old k source below held steps how new kept after full now
+rows_given old new k source below held steps how count begin end kept after full now h (inl some) = some_given old new k source below held steps how count begin end kept after full now some.0 h some.1
+rows_given old new k source below held steps how count begin end kept after full now h (inr nothing) = none_given old new k source below held steps how count begin end kept after full now nothing.0 h nothing.1
 
 -- what rows leave that were answered and are done: the session stands for some state, and has answered as many lines as the reader gave
 pub record Leaves (old new : Reading) (k kept : SessionValue) : Type 0 where
@@ -174,10 +175,10 @@ lines_in ahead given k below held steps how count begin end kept after full now 
     lines_of ahead k below held steps how count begin end kept after full now (subst (λ (t : List ℕ). AreAnswered t k below held steps how count begin end kept after full now) is h)
 
 pub rows_in : (old new : Reading) (given : List ℕ) (k : SessionValue) (source : SourceState) (below : SinkState) (held : List ℕ) (steps : StepsValue) (how how' : LineOutcome) (count begin end : ℕ) (kept : SessionValue) (after : SinkState) (full : List ℕ) (now : StepsValue) → how ≡ how'
-    → given ≡ old.ahead ++ 10 ∷ [] → AreAnswered given k below held steps how count begin end kept after full now → (0 < count → GivesAll old new count begin end) → (count ≡ 0 → new ≡ old) → AnswersRows old k source below held steps how' new kept after full now
-rows_in old new given k source below held steps how how' count begin end kept after full now same is h some nothing =
+    → given ≡ old.ahead ++ 10 ∷ [] → AreAnswered given k below held steps how count begin end kept after full now → IsGiven old new count begin end → AnswersRows old k source below held steps how' new kept after full now
+rows_in old new given k source below held steps how how' count begin end kept after full now same is h lines =
     subst (λ (o : LineOutcome). AnswersRows old k source below held steps o new kept after full now) same
-    (rows_given old new k source below held steps how count begin end kept after full now (subst (λ (t : List ℕ). AreAnswered t k below held steps how count begin end kept after full now) is h) some nothing)
+    (rows_given old new k source below held steps how count begin end kept after full now (subst (λ (t : List ℕ). AreAnswered t k below held steps how count begin end kept after full now) is h) lines)
 
 -- one row more was answered
 pub answered_more : (text : List ℕ) (k : SessionValue) (below : SinkState) (held : List ℕ) (steps : StepsValue) (how how' : LineOutcome) (count begin end len stream : ℕ) (values : List ℤ) (left kept : SessionValue) (between after : SinkState) (part full : List ℕ) (name name' : ℕ) (spent now : StepsValue)
@@ -201,6 +202,10 @@ abbrev pub IsFault : LineOutcome → Type 0
 IsFault Done = ⊥
 IsFault WriteFault = ⊤
 IsFault Memory = ⊤
+
+pub not_done : (how : LineOutcome) → (how ≡ WriteFault) ⊎ (how ≡ Memory) → how ≡ Done → ⊥
+not_done how (inl fault) done = subst IsFault (sym fault ∙ done) tt
+not_done how (inr fault) done = subst IsFault (sym fault ∙ done) tt
 
 -- a turn that the last row made, which is not done
 pub turned_behind : (how : LineOutcome) (turn : Turn) (old : Reading) (k : SessionValue) (source : SourceState) (below : SinkState) (held : List ℕ) (steps : StepsValue) (new : Reading) (kept : SessionValue) (after lower : SinkState) (full rest : List ℕ) (now : StepsValue) → IsFault how

@@ -70,15 +70,6 @@ counted_text text k kept count begin end fit room some (counted.more before star
     let left : kept ≡ session_at k (before + 1) true = is ∙ ap (λ (n : ℕ). session_at k n true) c in
     subst (λ (n : ℕ). AreCounted text k n begin end kept) (sym c) (subst (λ (n : ℕ). AreCounted text k (before + 1) begin n kept) (sym e) (subst (λ (x : SessionValue). AreCounted text k (before + 1) begin (begin + len + 1) x) (sym left) last))
 
--- where no row was counted, nothing was
-pub none_counted : (text : List ℕ) (k kept : SessionValue) (count begin end : ℕ) → count ≡ 0 → AreSparedRows k.streams (open_in k.lock) k.registry.live text count begin end → kept ≡ k → AreCounted text k count begin end kept
-none_counted text k kept count begin end nothing (counted.none c e) is = no_row c e is
-none_counted text k kept count begin end nothing (counted.more before start len h row c e) is = absurd (omega (arith, nothing, c))
-
-pub stays : (text : List ℕ) (k : SessionValue) (count begin end : ℕ) (kept : SessionValue) → AreCounted text k count begin end kept → count ≡ 0 → kept ≡ k
-stays text k count begin end kept (no_row c e is) nothing = is
-stays text k count begin end kept (row_more before start len left h row answers c e) nothing = absurd (omega (arith, nothing, c))
-
 -- rows that were counted end before the last LF of a text, and each has a byte
 pub counted_within : (text : List ℕ) (k : SessionValue) (count begin end : ℕ) (kept : SessionValue) → 0 < length text → AreCounted text k count begin end kept → end < length text
 counted_within text k count begin end kept some (no_row c e is) = omega (arith, e, some)

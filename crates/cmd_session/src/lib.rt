@@ -7,7 +7,7 @@
 //! are taken.
 //!
 //! `take_turn` answers the next line of a source, and `run_lines` one after another: what is held is written before the source is read, so no
-//! reply waits while the program waits for input. `front_ahead` takes the rows at the front of a text at once, as long as each live query
+//! reply waits while the program waits for input. `Session::front_ahead` takes the rows at the front of a text at once, as long as each live query
 //! refuses them by their streams.
 #![tactic(auto)]
 
@@ -29,7 +29,7 @@ mod words;
 
 pub use announced::Announced;
 pub use counting::CountedRows;
-pub use front::{Front, front_ahead};
+pub use front::Front;
 pub use io_row_reader::OpenStreams;
 pub use lock::Lock;
 pub use one_turn::{Turn, take_turn};

@@ -1,9 +1,9 @@
 //! One turn of a source: its next line, answered before the source is read again.
-ghost use Rattle.std.specs.Prelude.{◌≡◌, ◌≢◌, ◌⊎◌, ℕ, ◌+◌, ◌<◌, ◌≤◌, ◌^◌, List, length, true, false, IsTrue, IsFalse};
+ghost use Rattle.std.specs.Prelude.{◌≡◌, ◌⊎◌, ℕ, ◌+◌, ◌<◌, ◌≤◌, ◌^◌, List, length, false};
 ghost use Rattle.io_streams.specs.Gathered.{gathered_seen};
 ghost use Rattle.io_streams.specs.Sink.{SinkState};
 ghost use Rattle.io_streams.specs.Source.{SourceState};
-ghost use Rattle.io_line_reader.specs.Reading.{AreLinesAhead, GivesAll, IsBegun, Reading};
+ghost use Rattle.io_line_reader.specs.Reading.{IsBegun, Reading};
 ghost use Rattle.io_row_reader.specs.Ahead.{IsEnded};
 ghost use Rattle.cmd_session.specs.declared.outcome.LineOutcome.TheVariants as outcomes;
 ghost use Rattle.cmd_session.specs.State.{State};
@@ -14,7 +14,7 @@ ghost use Rattle.cmd_session.specs.Turned.{AnsweredLine, Turned};
 
 use crate::counting::CountedRows;
 use crate::fetch::{Fetched, fetch};
-use crate::front::{Front, front_ahead};
+use crate::front::Front;
 use crate::outcome::LineOutcome;
 use crate::session::Session;
 use exec_pool::Steps;
@@ -145,18 +145,6 @@ struct AnsweredRows {
     outcome: LineOutcome,
 }
 
-// Whether the reply to a line was written.
-fn is_done(outcome: LineOutcome) -> bool
-    ensures done { IsTrue result → outcome ≡ outcomes.Done }
-    ensures other { IsFalse result → outcome ≢ outcomes.Done }
-{
-    match outcome {
-        LineOutcome::Done => true,
-        LineOutcome::WriteFault => false,
-        LineOutcome::Memory => false,
-    }
-}
-
 // Answers the rows at the front of a text, up to one of which the reply breaks off.
 #[inline(always)]
 fn answer_rows<O: Sink, L: Ledger>(
@@ -175,7 +163,7 @@ fn answer_rows<O: Sink, L: Ledger>(
     let mut rows = CountedRows::NONE;
     'rows: loop {
         let mut row = Row::new();
-        match front_ahead(session, text.split_at(rows.end).1, &mut row) {
+        match session.front_ahead(text.split_at(rows.end).1, &mut row) {
             Front::Counted(more) => {
                 rows = CountedRows {
                     count: rows.count + more.count,
@@ -190,8 +178,11 @@ fn answer_rows<O: Sink, L: Ledger>(
                     end: rows.end + len + 1,
                 };
                 let outcome = session.plain_row(stream, &row, output, steps);
-                if !is_done(outcome) {
-                    return AnsweredRows { rows, outcome };
+                match outcome {
+                    LineOutcome::Done => {}
+                    LineOutcome::WriteFault | LineOutcome::Memory => {
+                        return AnsweredRows { rows, outcome };
+                    }
                 }
             }
             Front::Other => {
@@ -202,26 +193,6 @@ fn answer_rows<O: Sink, L: Ledger>(
             }
         }
     }
-}
-
-// Gives the lines of rows at the front of what the reader has ahead, where there are any.
-#[inline(always)]
-fn give_rows(reader: &mut LineReader, rows: CountedRows)
-    requires { AreLinesAhead reader.old.ahead rows.count rows.begin rows.end }
-    ensures some { 0 < rows.count → GivesAll reader.old reader.new rows.count rows.begin rows.end }
-    ensures none { rows.count ≡ 0 → reader.new ≡ reader.old }
-{
-    if rows.count == 0 {
-        return;
-    }
-    reader.give_lines(rows.count, rows.begin, rows.end);
-}
-
-// Whether so many lines can be counted, and one more for each byte of a text.
-fn can_count(lines: u64, text: &[u8]) -> bool
-    ensures { IsTrue result → lines + length text.now < 2 ^ 64 }
-{
-    lines <= u64::MAX - text.len() as u64
 }
 
 /// Answers the rows at the front of what the reader has ahead, gives their lines behind them, and then does what `take_turn` does.
@@ -238,12 +209,21 @@ pub(crate) fn next_turn<I: Source, O: Sink, L: Ledger>(
     ensures turned { TurnedBehind result reader.old reader.new (I.seen input.old) (I.seen input.new) session.old session.new (O.seen output.old.sink.now) (O.seen output.new.sink.now) output.old.held.items output.new.held.items steps.old steps.new }
     ensures same_reference { output.new.sink.ghost_name ≡ output.old.sink.ghost_name }
 {
-    if !can_count(session.lines(), reader.ahead_and_feed()) {
+    // So many lines may have been counted that one more for each byte ahead can be.
+    let most = u64::MAX - reader.ahead_and_feed().len() as u64;
+    if most < session.lines() {
         return any_turn(reader, session, input, output, steps);
     }
-    let answered = answer_rows(session, reader.ahead_and_feed(), output, steps);
-    give_rows(reader, answered.rows);
-    match answered.outcome {
+    let AnsweredRows { rows, outcome } = answer_rows(
+        session,
+        reader.ahead_and_feed(),
+        output,
+        steps,
+    );
+    if rows.count != 0 {
+        reader.give_lines(rows.count, rows.begin, rows.end);
+    }
+    match outcome {
         LineOutcome::Done => any_turn(reader, session, input, output, steps),
         LineOutcome::WriteFault => Turn::Stopped,
         LineOutcome::Memory => turn_of(LineOutcome::Memory, output),

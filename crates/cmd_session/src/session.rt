@@ -1,5 +1,5 @@
 //! The session.
-ghost use Rattle.std.specs.Prelude.{◌≡◌, ℕ, ◌+◌, ◌-◌, ◌<◌, ◌≤◌, ◌^◌, All, List, None, Some, [], true, false, IfOk, IfSome, IsTrue, IsFalse, length, nat_lt, if◌then◌else◌};
+ghost use Rattle.std.specs.Prelude.{◌≡◌, ℕ, ◌+◌, ◌-◌, ◌<◌, ◌≤◌, ◌^◌, All, List, None, Some, true, false, IfOk, IfSome, IsTrue, IsFalse, length, nat_lt, if◌then◌else◌};
 ghost use Rattle.std.specs.List.{list_any, position};
 ghost use Rattle.std.specs.Str.{bytes_eq};
 ghost use Rattle.sql_parser.specs.Grammar.{IsWhole};
@@ -11,11 +11,8 @@ ghost use Rattle.std.specs.declared.result.Result.TheVariants as results;
 ghost use Rattle.sql_catalog.specs.Rows.{entry, is_row_line};
 ghost use Rattle.sql_catalog.specs.Streams.{HasEnds, KeepsDomains, added, stream_number};
 ghost use Rattle.sql_parser.specs.LineKind.{stripped, kind_of_line};
-ghost use Rattle.exec_registry.specs.Passed.{passed};
-ghost use Rattle.exec_registry.specs.Registry as running;
 ghost use Rattle.exec_registry.specs.Registry.{KeepWithin, most_reads, most_writes, most_cells};
 ghost use Rattle.exec_registry.specs.Live.{announced_reads, announced_writes};
-ghost use Rattle.io_row_reader.specs.Ahead.{BeginsStream, IsEnded, IsRowAhead};
 ghost use Rattle.cmd_session.specs.Checkpoint.{create_again};
 ghost use Rattle.io_row_reader.specs.Plain.{IsPlainRow};
 ghost use Rattle.cmd_session.specs.State.{State, empty, initial, one_line_more};
@@ -24,21 +21,20 @@ ghost use Rattle.cmd_session.specs.Request.{Request, asked, explained, saved, un
 ghost use Rattle.cmd_session.specs.Requests.{entry_request, row_request, stream_request, query_request, explain_request, drop_request, rows_request, given_request, cell_request, tuple_request, lock_request, unlock_request, opened_by, statement_request};
 ghost use Rattle.cmd_session.specs.Lock.{open_in};
 ghost use Rattle.io_row_reader.specs.Open.{is_open};
-ghost use Rattle.cmd_session.specs.Counted.{AreCounted, AreSparedRows};
 ghost use Rattle.cmd_session.specs.Session.{IsSound, line_reads, line_writes, announced_line_reads, announced_line_writes};
 
+mod ahead;
 mod statements;
 
 use crate::announced::{Announced, announced_in};
 use crate::checkpoint::write_checkpoint;
-use crate::counting::{CountedRows, most_rows, spared_rows};
 use crate::create_query::{find_query, is_live, streams_of};
 use crate::lock::{Lock, is_let, open_in, opened_by};
 use crate::outcome::{LineOutcome, outcome_of};
 use crate::resuming::{rows_to_resume, set_cell, set_given, set_tuple};
 use exec_pool::Steps;
 use exec_registry::{CreateError, Registry, Verdict};
-use io_row_reader::{IndexedCatalog, read_plain, read_row_ahead, read_row_at};
+use io_row_reader::IndexedCatalog;
 use io_streams::Sink;
 use sem_query::{Query, Row, Tuple};
 use sql_catalog::ColumnDef;
@@ -123,7 +119,7 @@ impl Session {
     /// line that a word refuses, and the lines of checkpoints take no memory. A row reads at most three cells for each unit of work that the
     /// live queries announce and one for each of their parts, and writes at most one for each part. A statement reads and writes at most the
     /// cells that they announce. After the line each live query keeps within the numbers that it announced.
-    #[inline(always)] // each loop over lines calls it once, and is faster with the reading of plain rows inside
+    #[inline(always)] // each loop over lines calls it once, and is faster with the taking of rows inside
     pub fn line<O: Sink, L: Ledger>(
         &mut self,
         line: &[u8],
@@ -141,112 +137,16 @@ impl Session {
             × (steps.new.writes ≤ steps.old.writes + announced_line_writes (kind_of_line (stripped line.now)) s.queries) }
     {
         let mut row = Row::new();
-        self.lines += 1;
-        match read_plain(&self.catalog, line, &mut row) {
-            Some(stream) => {
-                let outcome = self.ask_row(stream, &row, out, steps);
-                // No effect at run time. The proof reads from this call that each live query keeps within its numbers.
-                let _within = self.registry.len();
-                outcome
-            }
+        match self.lone_row(line, &mut row) {
+            Some(stream) => self.plain_row(stream, &row, out, steps),
             None => {
+                self.lines += 1;
                 let outcome = self.answer_line(line, out, steps);
                 // No effect at run time. The proof reads from this call that each live query keeps within its numbers.
                 let _within = self.registry.len();
                 outcome
             }
         }
-    }
-
-    /// Puts the row that the first line of a text is into an empty `row`, and gives the number of its stream and the length of the line,
-    /// where the line is a row of an open stream, each value in the domain of its column, written without blanks.
-    #[inline(always)]
-    pub fn row_ahead(&self, text: &[u8], row: &mut Row) -> Option<(u8, usize)>
-        requires empty { row.old.items ≡ [] }
-        requires ended { IsEnded text.now }
-        ensures row { IfSome result (λ found. IsRowAhead self.now.streams text.now found.0 found.1 row.new.items) }
-        ensures opens { IfSome result (λ found. IsTrue (is_open (open_in self.now.lock) found.0)) }
-    {
-        read_row_ahead(&self.catalog, text, row)
-    }
-
-    /// Returns the number of the open stream with whose name and a comma a text begins, and where what stands behind that comma begins.
-    #[inline(always)]
-    pub(crate) fn stream_ahead(&self, text: &[u8]) -> Option<(u8, usize)>
-        requires ended { IsEnded text.now }
-        ensures begins { IfSome result (λ found. BeginsStream self.now.streams text.now found.0 found.1) }
-        ensures opens { IfSome result (λ found. IsTrue (is_open (open_in self.now.lock) found.0)) }
-    {
-        self.catalog.stream_ahead(text)
-    }
-
-    /// Puts the row of a stream that the fields from a place of a text on are into an empty `row`, and returns the length of its line, where the
-    /// first line of the text is such a row, each value in the domain of its column, written without blanks.
-    #[inline(always)]
-    pub(crate) fn row_at(
-        &self,
-        stream: u8,
-        text: &[u8],
-        start: usize,
-        row: &mut Row,
-    ) -> Option<usize>
-        requires empty { row.old.items ≡ [] }
-        requires begins { BeginsStream self.now.streams text.now stream start }
-        requires ended { IsEnded text.now }
-        ensures { IfSome result (λ len. IsRowAhead self.now.streams text.now stream len row.new.items) }
-    {
-        read_row_at(&self.catalog, stream, text, start, row)
-    }
-
-    /// Returns whether it is worth while to try whether rows of a stream may be counted, since each live query is known to refuse each of them.
-    #[inline(always)]
-    pub(crate) fn spares(&self, stream: u8) -> bool {
-        self.registry.spares(stream)
-    }
-
-    // Returns the rows at the front of a text, as many at most as may be taken, of open streams of which each live query is known to refuse each
-    // row and no column has a domain, each written without blanks and plus signs.
-    #[inline(always)]
-    fn spared_ahead(&self, text: &[u8]) -> CountedRows
-        requires ended { IsEnded text.now }
-        ensures rows { AreSparedRows self.now.streams (open_in self.now.lock) self.now.registry.live text.now result.count result.begin result.end }
-        ensures few { self.now.taken + result.count ≤ self.now.limit }
-        ensures lines { self.now.lines + result.count < 2 ^ 64 }
-        ensures sound { IsSound self.now }
-        ensures queries { running.IsSound self.now.registry.pool self.now.registry.live }
-    {
-        // No effect at run time. The proof reads from this call what holds of the live queries.
-        let _sound = self.registry.len();
-        let most = most_rows(self.limit, self.taken, self.lines);
-        spared_rows(&self.catalog, &self.registry, text, most)
-    }
-
-    // Counts so many lines as rows that are taken, and that each live query refuses.
-    #[inline(always)]
-    fn count(&mut self, rows: u64)
-        requires few { self.old.taken + rows ≤ self.old.limit }
-        requires lines { self.old.lines + rows < 2 ^ 64 }
-        ensures { self.new ≡ record self.old { taken = self.old.taken + rows; lines = self.old.lines + rows; began = true; registry = passed rows self.old.registry } }
-    {
-        self.registry.pass(rows);
-        self.lines += rows;
-        self.taken += rows;
-        self.began = true;
-    }
-
-    /// Counts the rows at the front of a text, as many at most as may be taken, of open streams of which each live query is known to refuse each
-    /// row and no column has a domain, each written without blanks and plus signs. It is inlined into a function that is not.
-    #[inline(always)]
-    pub(crate) fn pass_rows(&mut self, text: &[u8]) -> CountedRows
-        requires ended { IsEnded text.now }
-        ensures { AreCounted text.now self.old result.count result.begin result.end self.new }
-    {
-        let rows = self.spared_ahead(text);
-        if rows.count == 0 {
-            return rows;
-        }
-        self.count(rows.count);
-        rows
     }
 
     /// Answers a line of at most 1,024 bytes that is this row of an open stream, whose values lie in the domains of its columns.
@@ -349,13 +249,6 @@ impl Session {
         registry.close();
     }
 
-    // Whether one more row may be taken.
-    fn has_room(&self) -> bool
-        ensures { result ≡ nat_lt self.now.taken self.now.limit }
-    {
-        self.taken < self.limit
-    }
-
     // Refuses the line that was counted last.
     fn refuse<O: Sink>(&self, word: Refusal, out: &mut O) -> LineOutcome
         ensures { (s : State) → StandsFor self.now (one_line_more s) → Does result s (refused word) self.now (O.seen out.old) (O.seen out.new) }
@@ -403,7 +296,7 @@ impl Session {
         ensures reads { steps.new.reads ≤ steps.old.reads + most_reads self.old.registry.live }
         ensures writes { steps.new.writes ≤ steps.old.writes + most_writes self.old.registry.live }
     {
-        if !self.has_room() {
+        if self.limit <= self.taken {
             return self.refuse(Refusal::RowLimit, out);
         }
         self.taken += 1;

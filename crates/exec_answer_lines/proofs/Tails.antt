@@ -1,14 +1,16 @@
 -- A text that is put before itself again and again.
-use Rattle.std.proofs.Common.{◌≡◌, ℕ, zero, suc, ◌+◌, ◌-◌, ◌≤◌, ℤ, List, ◌++◌, length, take, drop, replicate, length-take-le, take-append-drop, append_assoc, subst, refl, ap, sym, ◌∙◌, arith}
+use Rattle.std.proofs.Common.{◌≡◌, ℕ, zero, suc, ◌+◌, ◌-◌, ◌≤◌, ℤ, List, [], ◌++◌, length, take, drop, replicate, length-take-le, take-append-drop, append_assoc, subst, refl, ap, sym, ◌∙◌, arith}
 use Rattle.std.specs.List.{flat_map}
 use Rattle.std.proofs.lemmas.Simd.{put_chunk_is}
 use lib.Lanes.{put_chunk}
 use Rattle.std.proofs.lemmas.List.{drop-drop, drop-append-le, drop_at}
 use Rattle.std.specs.Prelude.{⊤}
+use Rattle.std.proofs.KnownBytes.{Appends-nil, Appends-kept}
 use Rattle.std.specs.declared.result.Result.{Result}
 use Rattle.std.specs.declared.result.Result.TheVariants.{Ok, Err}
 use Rattle.io_streams.specs.declared.sink.WriteFault.{WriteFault}
-use Rattle.io_streams.specs.Sink.{SinkState, Wrote, BrokeOff, Writes}
+use Rattle.io_streams.specs.declared.sink.WriteAnswer.TheVariants.{Failed}
+use Rattle.io_streams.specs.Sink.{SinkState, Wrote, BrokeOff, Writes, WritesSome}
 use Rattle.io_streams.proofs.Writing.{Wrote-trans, BrokeOff-then, BrokeOff-stop}
 use Rattle.sql_text.specs.Tuple.{tuple_line}
 
@@ -75,6 +77,10 @@ one_and_more t u m n h e =
 pub front_and_rest : (text : List ℕ) (n : ℕ) (a b c : SinkState) (result : Result ⊤ WriteFault) → Wrote a b (take n text) → Writes result b c (drop n text) → Writes result a c text
 front_and_rest text n a b c (Ok x) w o = subst (Wrote a c) (take-append-drop n text) (Wrote-trans a b c _ _ w o)
 front_and_rest text n a b c (Err e) w o = subst (BrokeOff a c) (take-append-drop n text) (BrokeOff-then a b c _ _ w o)
+
+-- nothing of a text was written
+pub broke_at_once : (text : List ℕ) (a b : SinkState) → WritesSome Failed text a b → BrokeOff a b text
+broke_at_once text a b w = record { front = []; rest = text; whole = refl; wrote = record { bytes = Appends-kept a.written a.written b.written [] (Appends-nil a.written) w.1; later = w.2 }; rose = w.0 }
 
 module _ (text : List ℕ) (a b c : SinkState) where
   -- so many copies more were written

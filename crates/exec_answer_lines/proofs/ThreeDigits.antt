@@ -1,8 +1,11 @@
 -- The digits of numbers below 1,000, four bytes each.
-use Rattle.std.proofs.Common.{◌≡◌, ℕ, zero, suc, ◌+◌, ◌*◌, ◌/◌, ◌%◌, ◌<◌, ◌≤◌, List, [], ◌∷◌, ◌++◌, take, drop, refl, ap, ◌∙◌, arith, append_assoc}
+use Rattle.std.proofs.Common.{◌≡◌, ℕ, zero, suc, ◌+◌, ◌-◌, ◌*◌, ◌/◌, ◌%◌, ◌<◌, ◌≤◌, List, [], ◌∷◌, ◌++◌, take, drop, length, refl, ap, ◌∙◌, arith, append_assoc}
 use Rattle.std.specs.Fmt.{decimal}
 use Rattle.std.proofs.lemmas.Fmt.{decimal_digit, decimal_step}
+use Rattle.std.proofs.lemmas.List.{take-take}
 use Rattle.itoa.proofs.Decimal.{decimal_two}
+use lib.Lanes.{put_chunk}
+use Rattle.exec_answer_lines.proofs.Tails.{put_before, tail_before}
 use Rattle.exec_answer_lines.specs.Digits.{three_digits}
 use Rattle.exec_answer_lines.specs.declared.threes.TheConstants.{FOURS}
 
@@ -25,6 +28,15 @@ row_at (suc n) (suc j) k h =
 -- the row of a number
 pub row_of : (n : ℕ) → n < 1000 → take 4 (drop (4 * n) FOURS) ≡ 48 ∷ three_digits n
 row_of n h = let e : 0 + n ≡ n = omega arith in ap (λ l. take 4 (drop (4 * n) l)) are_rows ∙ row_at 1000 n 0 h ∙ ap (λ m. 48 ∷ three_digits m) e
+
+-- the row of a number, put before a place
+pub put_row : (xs : List ℕ) (e n : ℕ) → n < 1000 → 4 ≤ e → e ≤ length xs
+    → drop (e - 3) (put_chunk (e - 4) xs (take 4 (take (4000 - 4 * n) (drop (4 * n) FOURS)))) ≡ three_digits n ++ drop e xs
+put_row xs e n few room inside =
+    let row = 48 ∷ three_digits n in
+    let whole = take-take 4 (4000 - 4 * n) (drop (4 * n) FOURS) (omega (arith, few)) ∙ row_of n few in
+    ap (λ l. drop (e - 3) (put_chunk (e - 4) xs l)) whole
+    ∙ tail_before 4 _ row (drop e xs) e 3 refl (omega arith) room (put_before xs row e 4 refl room inside)
 
 -- the text of a number of three digits, of two, and of one
 pub decimal_three : (n : ℕ) → 100 ≤ n → n < 1000 → decimal n ≡ three_digits n

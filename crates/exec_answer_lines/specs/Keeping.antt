@@ -1,5 +1,5 @@
 -- The text of a tuple at the front of a room.
-use Rattle.std.specs.Prelude.{◌≡◌, ◌≤◌, ◌<◌, ℕ, ℤ, List, [], ◌∷◌, ◌++◌, take}
+use Rattle.std.specs.Prelude.{◌≡◌, ◌≤◌, ℕ, ℤ, List, [], ◌∷◌, ◌++◌, take}
 use Rattle.sql_text.specs.Tuple.{tuple_text}
 
 -- the first bytes of the room, so many, are the text of the tuple, and LF

@@ -5,9 +5,9 @@ ghost use Rattle.io_streams.specs.Sink.{Writes};
 ghost use Rattle.sql_text.specs.Tuple.{tuple_line};
 ghost use Rattle.exec_answer_lines.specs.Gathering.{Gathers};
 
-use crate::kept::{KeptTuple, put_text};
-use crate::lines::{LINE_ROOM, put_lines};
-use io_streams::{Sink, WriteFault, write_all};
+use crate::kept::KeptTuple;
+use crate::lines::{LINE_ROOM, put_copies, put_name, put_values, write_rest, write_times};
+use io_streams::{Sink, WriteAnswer, WriteFault, write_all};
 use sql_text::Name;
 use std::marker::Model;
 
@@ -34,46 +34,6 @@ impl Model for AnswerLines {
     ghost view = { λ lines. take lines.filled lines.room };
 
     ghost invariant = { λ lines. lines.filled ≤ 1824 };
-}
-
-// Puts a name there, and returns where it ends. Most names have one to three bytes, and to copy a slice costs more than these.
-#[inline(always)]
-fn put_name(room: &mut [u8], at: usize, name: &Name) -> usize
-    requires room { at + 24 ≤ length room.old }
-    ensures text { take result room.new ≡ take at room.old ++ name.now }
-    ensures end { result ≤ at + 24 }
-    ensures len { length room.new ≡ length room.old }
-{
-    match name.bytes() {
-        [first] => {
-            room[at] = *first;
-            at + 1
-        }
-        [first, second] => {
-            room[at] = *first;
-            room[at + 1] = *second;
-            at + 2
-        }
-        [first, second, third] => {
-            room[at] = *first;
-            room[at + 1] = *second;
-            room[at + 2] = *third;
-            at + 3
-        }
-        bytes => put_text(room, at, bytes),
-    }
-}
-
-// Puts the line of an answer there, and returns where it ends.
-#[inline(always)]
-fn put_line(room: &mut [u8], at: usize, name: &Name, kept: &KeptTuple) -> usize
-    requires room { at + 216 ≤ length room.old }
-    ensures text { take result room.new ≡ take at room.old ++ tuple_line name.now kept.now }
-    ensures end { result ≤ at + 216 }
-    ensures len { length room.new ≡ length room.old }
-{
-    let end = put_name(room, at, name);
-    kept.put(room, end)
 }
 
 // Writes lines that fill the room. It is not inlined: mostly there is room.
@@ -128,7 +88,25 @@ impl AnswerLines {
         ensures written { Writes result (O.seen out.old) (O.seen out.new) (flat_map (tuple_line name.now) (replicate times.now tuple.now)) }
         ensures same { self.new ≡ self.old }
     {
-        put_lines(&mut self.line, name, tuple, times, out)
+        let end = put_values(&mut self.line, tuple);
+        let bytes = name.bytes();
+        let start = end - bytes.len();
+        put_name(&mut self.line, start, bytes);
+        // How often it waits is read when the line stands, so that it is kept nowhere meanwhile.
+        let first = match put_copies(&mut self.line, start, *times) {
+            Some(first) => first,
+            None => return write_times(&mut self.line, start, *times, out),
+        };
+        let line = self.line.split_at(first).1;
+        match out.write(line) {
+            WriteAnswer::Took(n) => {
+                if n == line.len() {
+                    return Ok(());
+                }
+                write_rest(line, n, out)
+            }
+            WriteAnswer::Failed => Err(WriteFault),
+        }
     }
 
     // Writes what is gathered, and then a tuple so many times. It is not inlined: most answers wait once.
@@ -166,7 +144,8 @@ impl AnswerLines {
             return self.write_behind(name, tuple, times, out);
         }
         self.kept.keep(tuple, &mut self.line);
-        let filled = put_line(&mut self.room, self.filled, name, &self.kept);
+        let end = put_name(&mut self.room, self.filled, name.bytes());
+        let filled = self.kept.put(&mut self.room, end);
         if filled > FILLED {
             self.filled = 0;
             return write_full(self.room.split_at(filled).0, out);

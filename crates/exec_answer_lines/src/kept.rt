@@ -2,7 +2,7 @@
 ghost use Rattle.std.specs.Prelude.{◌≡◌, ◌≤◌, ◌+◌, ◌++◌, [], ◌∷◌, true, take, length};
 ghost use Rattle.sql_text.specs.Tuple.{tuple_text};
 
-use crate::lines::{LINE_ROOM, put_values};
+use crate::lines::{LINE_ROOM, put_text, put_values};
 use sem_query::Tuple;
 use std::marker::Model;
 use std::simd::prelude::*;
@@ -61,19 +61,7 @@ fn put_short(room: &mut [u8], at: usize, text: u8x16, len: usize) -> usize
     at + len
 }
 
-/// Puts a text there, and returns where it ends.
-pub fn put_text(room: &mut [u8], at: usize, text: &[u8]) -> usize
-    requires room { at + length text.now ≤ length room.old }
-    ensures text { take result room.new ≡ take at room.old ++ text.now }
-    ensures end { result ≡ at + length text.now }
-    ensures len { length room.new ≡ length room.old }
-{
-    let end = at + text.len();
-    room[at..end].copy_from_slice(text);
-    end
-}
-
-// The same, not inlined: mostly a text is short.
+// Puts a text there, and returns where it ends. It is not inlined: mostly a text is short.
 #[inline(never)]
 fn put_long(room: &mut [u8], at: usize, text: &[u8]) -> usize
     requires room { at + length text.now ≤ length room.old }

@@ -1,15 +1,14 @@
 //! The lines of one answer in room that is kept.
-ghost use Rattle.std.specs.Prelude.{◌≡◌, ◌≤◌, ◌<◌, ◌+◌, ◌-◌, ◌++◌, [], ◌∷◌, true, drop, length, replicate};
+ghost use Rattle.std.specs.Prelude.{◌≡◌, ◌≤◌, ◌<◌, ◌+◌, ◌-◌, ◌++◌, [], ◌∷◌, true, take, drop, length, replicate};
 ghost use Rattle.std.specs.List.{flat_map};
 ghost use Rattle.std.specs.Fmt.{signed_decimal};
 ghost use Rattle.io_streams.specs.Sink.{Writes};
 ghost use Rattle.exec_answer_lines.specs.Copies.{PutsCopies};
-ghost use Rattle.sql_text.specs.Tuple.{tuple_text, tuple_line};
+ghost use Rattle.sql_text.specs.Tuple.{tuple_text};
 
 use crate::threes::{put_below_million, put_below_thousand};
-use io_streams::{Sink, WriteAnswer, WriteFault, write_all};
+use io_streams::{Sink, WriteFault, write_all};
 use itoa::write_digits;
-use sql_text::{Name, put_tuples};
 use std::simd::prelude::*;
 
 /// The bytes of the room for a line: 32 short lines, which end at its end.
@@ -59,21 +58,6 @@ fn put_digits_before(line: &mut [u8], end: usize, value: i64) -> usize
     put_integer_before(line, end, value)
 }
 
-// Puts a comma and a value before that place, and returns where the comma stands.
-#[inline(always)]
-fn put_value_before(line: &mut [u8], end: usize, value: i64) -> usize
-    requires room { 21 ≤ end }
-    requires inside { end ≤ length line.old }
-    ensures text { drop result line.new ≡ 44 ∷ signed_decimal value ++ drop end line.old }
-    ensures before { result ≤ end }
-    ensures short { end ≤ result + 21 }
-    ensures len { length line.new ≡ length line.old }
-{
-    let start = put_digits_before(line, end, value);
-    line[start - 1] = b',';
-    start - 1
-}
-
 /// Puts the values of a tuple at the end of a line, each behind a comma, and LF behind them. Returns where they start.
 #[inline(always)]
 pub fn put_values(line: &mut [u8], values: &[i64]) -> usize
@@ -89,85 +73,58 @@ pub fn put_values(line: &mut [u8], values: &[i64]) -> usize
     let mut left = values.len();
     while left > 0 {
         left -= 1;
-        start = put_value_before(line, start, values[left]);
+        start = put_digits_before(line, start, values[left]) - 1;
+        line[start] = b',';
     }
     start
 }
 
-// Puts a name before that place, and returns where it starts. Most names have one to three bytes, and to copy a slice costs more than these.
-fn put_name_before(line: &mut [u8], end: usize, name: &Name) -> usize
-    requires room { 24 ≤ end }
-    requires inside { end ≤ length line.old }
-    ensures text { drop result line.new ≡ name.now ++ drop end line.old }
-    ensures near { end ≤ result + 24 }
-    ensures before { result ≤ end }
-    ensures len { length line.new ≡ length line.old }
+/// Puts a text there, and returns where it ends.
+pub fn put_text(room: &mut [u8], at: usize, text: &[u8]) -> usize
+    requires room { at + length text.now ≤ length room.old }
+    ensures text { take result room.new ≡ take at room.old ++ text.now }
+    ensures behind { drop result room.new ≡ drop result room.old }
+    ensures end { result ≡ at + length text.now }
+    ensures len { length room.new ≡ length room.old }
 {
-    match name.bytes() {
+    let end = at + text.len();
+    room[at..end].copy_from_slice(text);
+    end
+}
+
+/// Puts a name there, and returns where it ends. Most names have one to three bytes, and to copy a slice costs more than these.
+#[inline(always)]
+pub fn put_name(room: &mut [u8], at: usize, name: &[u8]) -> usize
+    requires room { at + length name.now ≤ length room.old }
+    ensures text { take result room.new ≡ take at room.old ++ name.now }
+    ensures behind { drop result room.new ≡ drop result room.old }
+    ensures end { result ≡ at + length name.now }
+    ensures len { length room.new ≡ length room.old }
+{
+    match name {
         [first] => {
-            line[end - 1] = *first;
-            end - 1
+            room[at] = *first;
+            at + 1
         }
         [first, second] => {
-            line[end - 1] = *second;
-            line[end - 2] = *first;
-            end - 2
+            room[at] = *first;
+            room[at + 1] = *second;
+            at + 2
         }
         [first, second, third] => {
-            line[end - 1] = *third;
-            line[end - 2] = *second;
-            line[end - 3] = *first;
-            end - 3
+            room[at] = *first;
+            room[at + 1] = *second;
+            room[at + 2] = *third;
+            at + 3
         }
-        bytes => {
-            let start = end - bytes.len();
-            line[start..end].copy_from_slice(bytes);
-            start
-        }
+        _ => put_text(room, at, name),
     }
 }
 
-// Puts the line of an answer at the end of the room, and returns where it starts.
-#[inline(always)]
-fn put_line(line: &mut [u8], name: &Name, values: &[i64]) -> usize
-    requires few { length values.now ≤ 8 }
+// Puts a text that ends the room so many times more before itself, where it is short, and returns where the first one starts.
+fn repeat_text(line: &mut [u8], start: usize, more: usize) -> usize
     requires size { length line.old ≡ 528 }
-    ensures text { drop result line.new ≡ tuple_line name.now values.now }
-    ensures inside { result < 528 }
-    ensures len { length line.new ≡ 528 }
-{
-    let end = put_values(line, values);
-    put_name_before(line, end, name)
-}
-
-// Puts a short text before that place. It is one move.
-fn put_short_before(line: &mut [u8], end: usize, text: u8x16)
-    requires room { 16 ≤ end }
-    requires inside { end ≤ length line.old }
-    ensures text { drop (end - 16) line.new ≡ text ++ drop end line.old }
-    ensures len { length line.new ≡ length line.old }
-{
-    text.copy_to_slice(&mut line[end - SHORT..]);
-}
-
-// Puts the last so many bytes of a short text before that place, and returns where they start.
-fn put_tail_before(line: &mut [u8], end: usize, text: u8x16, len: usize) -> usize
-    requires short { len ≤ 16 }
-    requires room { 16 ≤ end }
-    requires inside { end ≤ length line.old }
-    ensures text { drop result line.new ≡ drop (16 - len) text ++ drop end line.old }
-    ensures behind { drop end line.new ≡ drop end line.old }
-    ensures start { result + len ≡ end }
-    ensures len { length line.new ≡ length line.old }
-{
-    put_short_before(line, end, text);
-    end - len
-}
-
-// Puts a short text that ends the room so many times more before itself, and returns where the first one starts.
-fn repeat_short(line: &mut [u8], start: usize, more: usize) -> usize
-    requires size { length line.old ≡ 528 }
-    requires short { 512 ≤ start }
+    requires short { 0 < more → 512 ≤ start }
     requires inside { start ≤ 528 }
     requires few { more < 32 }
     ensures text { drop result line.new ≡ flat_map (λ text. text) (replicate (more + 1) (drop start line.old)) }
@@ -176,10 +133,10 @@ fn repeat_short(line: &mut [u8], start: usize, more: usize) -> usize
     ensures len { length line.new ≡ 528 }
 {
     let text = u8x16::from_slice(&line[LINE_ROOM - SHORT..]);
-    let len = LINE_ROOM - start;
     let mut at = start;
     'copies: for k in 0..more {
-        at = put_tail_before(line, at, text, len);
+        text.copy_to_slice(&mut line[at - SHORT..]);
+        at -= LINE_ROOM - start;
     }
     at
 }
@@ -195,12 +152,13 @@ fn put_few(line: &mut [u8], start: usize, times: u128) -> Option<usize>
     if start < LINE_ROOM - SHORT || times == 0 || times > MOST_COPIES {
         return None;
     }
-    Some(repeat_short(line, start, times as usize - 1))
+    Some(repeat_text(line, start, times as usize - 1))
 }
 
-// Puts a text that ends the room before itself until it stands there so many times, where it is done by a few moves.
+/// Puts a text that ends the room before itself until it stands there so many times, where it is done by a few moves, and returns where the first
+/// one starts.
 #[inline(always)]
-fn put_copies(line: &mut [u8], start: usize, times: u128) -> Option<usize>
+pub fn put_copies(line: &mut [u8], start: usize, times: u128) -> Option<usize>
     requires size { length line.old ≡ 528 }
     requires inside { start < 528 }
     ensures { PutsCopies result times start line.old line.new }
@@ -211,23 +169,28 @@ fn put_copies(line: &mut [u8], start: usize, times: u128) -> Option<usize>
     put_few(line, start, times)
 }
 
-// Writes a short text that ends the room so many times, up to 32 times by one call of the sink.
-fn write_times<O: Sink>(
-    line: &mut [u8],
+/// Writes a text that ends the room so many times, up to 32 times by one call of the sink where it is short. It is not inlined: most answers
+/// wait once.
+#[inline(never)]
+pub fn write_times<O: Sink>(
+    room: &mut [u8; LINE_ROOM],
     start: usize,
     times: u128,
     out: &mut O,
 ) -> Result<(), WriteFault>
-    requires size { length line.old ≡ 528 }
-    requires short { 512 ≤ start }
-    requires inside { start ≤ 528 }
-    ensures { Writes result (O.seen out.old) (O.seen out.new) (flat_map (λ text. text) (replicate times (drop start line.old))) }
+    requires { start ≤ 528 }
+    ensures { Writes result (O.seen out.old) (O.seen out.new) (flat_map (λ text. text) (replicate times (drop start room.old))) }
 {
+    let most = if start < LINE_ROOM - SHORT {
+        1
+    } else {
+        MOST_COPIES
+    };
     let mut left = times;
     'left: while left > 0 {
-        let count = left.min(MOST_COPIES);
-        let first = repeat_short(line, start, count as usize - 1);
-        match write_all(out, line.split_at(first).1) {
+        let count = left.min(most);
+        let first = repeat_text(room, start, count as usize - 1);
+        match write_all(out, room.split_at(first).1) {
             Ok(()) => {}
             Err(fault) => return Err(fault),
         }
@@ -236,70 +199,12 @@ fn write_times<O: Sink>(
     Ok(())
 }
 
-// Writes a tuple so many times as an answer, of which the line ends the room. It is not inlined: most lines are short, and wait few times.
-#[inline(never)]
-fn put_many<O: Sink>(
-    room: &mut [u8; LINE_ROOM],
-    start: usize,
-    name: &Name,
-    tuple: &[i64],
-    times: u128,
-    out: &mut O,
-) -> Result<(), WriteFault>
-    requires few { length tuple.now ≤ 8 }
-    requires inside { start ≤ 528 }
-    requires line { drop start room.old ≡ tuple_line name.now tuple.now }
-    ensures { Writes result (O.seen out.old) (O.seen out.new) (flat_map (tuple_line name.now) (replicate times tuple.now)) }
-{
-    if start < LINE_ROOM - SHORT {
-        return put_tuples(out, name, tuple, times);
-    }
-    write_times(room, start, times, out)
-}
-
-// Writes what is left of a line. It is not inlined: mostly the sink takes a line whole.
+/// Writes what is left of a line. It is not inlined: mostly the sink takes a line whole.
 #[cold]
 #[inline(never)]
-fn write_rest<O: Sink>(line: &[u8], taken: usize, out: &mut O) -> Result<(), WriteFault>
+pub fn write_rest<O: Sink>(line: &[u8], taken: usize, out: &mut O) -> Result<(), WriteFault>
     requires { taken ≤ length line.now }
     ensures { Writes result (O.seen out.old) (O.seen out.new) (drop taken line.now) }
 {
     write_all(out, line.split_at(taken).1)
-}
-
-// Writes a line that is not empty.
-#[inline(always)]
-fn write_line<O: Sink>(line: &[u8], out: &mut O) -> Result<(), WriteFault>
-    requires { 0 < length line.now }
-    ensures { Writes result (O.seen out.old) (O.seen out.new) line.now }
-{
-    match out.write(line) {
-        WriteAnswer::Took(n) => {
-            if n == line.len() {
-                return Ok(());
-            }
-            write_rest(line, n, out)
-        }
-        WriteAnswer::Failed => Err(WriteFault),
-    }
-}
-
-/// Writes a tuple of at most 8 values so many times as an answer of the query of this name, up to 32 short lines by one call of the sink.
-#[inline(always)]
-pub fn put_lines<O: Sink>(
-    room: &mut [u8; LINE_ROOM],
-    name: &Name,
-    tuple: &[i64],
-    times: &u128,
-    out: &mut O,
-) -> Result<(), WriteFault>
-    requires { length tuple.now ≤ 8 }
-    ensures { Writes result (O.seen out.old) (O.seen out.new) (flat_map (tuple_line name.now) (replicate times.now tuple.now)) }
-{
-    let start = put_line(room, name, tuple);
-    // How often it waits is read when the line stands, so that it is kept nowhere meanwhile.
-    match put_copies(room, start, *times) {
-        Some(first) => write_line(room.split_at(first).1, out),
-        None => put_many(room, start, name, tuple, *times, out),
-    }
 }

@@ -49,39 +49,20 @@ static FOURS: [u8; 4000] = *b"\
         0975097609770978097909800981098209830984098509860987098809890990099109920993099409950996099709980999\
         ";
 
-// The last three digits of a number below 1,000, behind zeros, and a byte before them.
-#[inline(always)]
-fn digits_of(number: usize) -> u8x4
-    requires few { number < 1000 }
-    ensures { result ≡ 48 ∷ three_digits number }
-{
-    u8x4::from_slice(&FOURS[4 * number..])
-}
-
-// Puts the last three digits of a number below 1,000 before that place, behind zeros. The byte before them is lost.
-#[inline(always)]
-fn put_three_before(line: &mut [u8], end: usize, number: usize)
-    requires few { number < 1000 }
-    requires room { 4 ≤ end }
-    requires inside { end ≤ length line.old }
-    ensures text { drop (end - 3) line.new ≡ three_digits number ++ drop end line.old }
-    ensures len { length line.new ≡ length line.old }
-{
-    digits_of(number).copy_to_slice(&mut line[end - 4..]);
-}
-
-/// Puts a number below 1,000 before that place, and returns where it starts. The byte before it is lost.
+/// Puts a number below 1,000 before that place, and returns where it starts. Its last three digits stand there, behind zeros; the byte before
+/// them is lost.
 #[inline(always)]
 pub(crate) fn put_below_thousand(line: &mut [u8], end: usize, number: usize) -> usize
     requires few { number < 1000 }
     requires room { 4 ≤ end }
     requires inside { end ≤ length line.old }
     ensures text { drop result line.new ≡ decimal number ++ drop end line.old }
+    ensures digits { drop (end - 3) line.new ≡ three_digits number ++ drop end line.old }
     ensures before { result < end }
     ensures short { end ≤ result + 3 }
     ensures len { length line.new ≡ length line.old }
 {
-    put_three_before(line, end, number);
+    u8x4::from_slice(&FOURS[4 * number..]).copy_to_slice(&mut line[end - 4..]);
     if number >= 100 {
         return end - 3;
     }
@@ -103,6 +84,7 @@ pub(crate) fn put_below_million(line: &mut [u8], end: usize, number: usize) -> u
     ensures short { end ≤ result + 6 }
     ensures len { length line.new ≡ length line.old }
 {
-    put_three_before(line, end, number % 1000);
+    // The zeros in front of the last three digits stay.
+    let _start = put_below_thousand(line, end, number % 1000);
     put_below_thousand(line, end - 3, number / 1000)
 }

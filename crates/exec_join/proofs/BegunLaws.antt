@@ -17,8 +17,7 @@ use Rattle.exec_ranges.specs.Narrowed.{narrowed_dims}
 use Rattle.exec_ranges.specs.Values.{rows_in}
 use Rattle.exec_ranges.proofs.DimLaws.{inside-narrowed}
 use Rattle.exec_ranges.specs.declared.binding.Binding.{Binding}
-use Rattle.exec_pool.specs.Strides.{IsFirst, Scanned}
-use Rattle.exec_pool.specs.declared.scan.Occupied.{Occupied}
+use Rattle.exec_pool.specs.Strides.{Scanned}
 use Rattle.exec_join.proofs.BesideLaws.{none-at}
 use Rattle.exec_join.proofs.BreakLaws.{breaks, breaks-inequality}
 use Rattle.exec_join.proofs.CostLaws.{cost-skip, cost-enter}
@@ -32,9 +31,8 @@ use Rattle.exec_join.specs.declared.along.Along.{Along}
 use Rattle.exec_join.specs.declared.along.Along.TheVariants as along
 use Rattle.exec_join.specs.Choosing.{Setting, setting, start, cell_at}
 use Rattle.exec_join.specs.Costs.{cost_left, reads, tried_size, walk_reads}
-use Rattle.exec_join.specs.Remaining.{IsAtStart, dims_now, limit}
+use Rattle.exec_join.specs.Remaining.{limit}
 use Rattle.exec_join.specs.Walk.{walk, opened, entered}
-use Rattle.exec_join.specs.declared.probe.Probe.{Probe}
 use Rattle.exec_synopsis.proofs.PlanLaws.{named}
 use Rattle.exec_synopsis.specs.Premises.{IsWalked, IsLaidOut, AreFitting}
 

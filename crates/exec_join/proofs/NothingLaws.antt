@@ -65,10 +65,6 @@ pub start-beside : (arriving : ℕ) → length (start arriving) ≢ arriving
 start-beside zero e = absurd (omega (arith, e))
 start-beside (suc a) e = absurd (omega (arith, e))
 
-pub start-later : (arriving : ℕ) → (arriving ≡ 0 → ⊥) → [] ≡ start arriving
-start-later zero h = absurd (h refl)
-start-later (suc a) h = refl
-
 walk-nothing : (ps : List Pair) (sel : List Attr) (part : PartPlan) (arriving : ℕ) (row : List ℤ) (read : Reading) (streams : ℕ) → length (start arriving) < streams
     → (fixed : List Dim) → fixed ≡ narrowed_dims ps part arriving row (start arriving) → box_size fixed ≡ 1
     → cell_in part read arriving (length (start arriving)) (map (λ d. d.lo) fixed) ≡ Empty → walk (setting ps sel part arriving row read) streams [] ≡ []

@@ -108,6 +108,18 @@ module _ (narrows : Dim → Dim) (less : (d : Dim) → d.lo ≤ℤ d.hi → IsNa
         omega (arith, r, t);
   }
 
+-- one value of the dim alone, behind a run of one place
+pub longer-one : (left d : Dim) (run : CellRun) (place first : ℕ) → run.count ≡ 1 → place < dim_size d → ((v : ℤ) → left.lo ≤ℤ v → v ≤ℤ left.hi → nat_abs (v -ℤ d.lo) ≡ place) → first ≡ run.first * dim_size d + place
+    → IsLonger left d run (record { first = first; count = 1 })
+longer-one left d run place first one below is e = record {
+  each = λ at v low high l m a b. (
+      let same : at ≡ run.first = omega (arith, low, high, one) in
+      let up : at * dim_size d ≡ run.first * dim_size d = ap (λ n. n * dim_size d) same in
+      let p = is v l m in
+      (omega (arith, up, p, e), omega (arith, up, p, e)));
+  room = (let more : run.count * dim_size d ≡ 1 * dim_size d = ap (λ n. n * dim_size d) one in omega (arith, more, below, e));
+}
+
 -- all values of the dim
 pub longer-whole : (left d : Dim) (run : CellRun) (first count : ℕ) → first ≡ run.first * dim_size d → count ≡ run.count * dim_size d → IsLonger left d run (record { first = first; count = count })
 longer-whole left d run first count e f = record {

@@ -1,6 +1,6 @@
 -- What one turn of a probe keeps.
 use Rattle.std.proofs.Common.{◌≡◌, ◌≢◌, ℕ, zero, suc, ◌+◌, ◌-◌, ◌*◌, ◌<◌, ◌≤◌, ◌^◌, ◌==◌, Bool, true, false, not, cond, get_or, List, [], ◌∷◌, ◌++◌, map, filter, length, drop, take, lit≤, refl, sym, ap, ◌∙◌, subst, arith, length-append, ℤ, pos, if◌then◌else◌, ◌&&◌, ◌||◌}
-use Rattle.std.specs.Prelude.{Option, Some, None, int_le, MatchOption, slice_index_or}
+use Rattle.std.specs.Prelude.{Option, Some, None, int_le, slice_index_or}
 use Rattle.std.specs.List.{list_any}
 use Rattle.std.proofs.lemmas.Bool.Decides.{nat_tests}
 use Rattle.std.proofs.Math.Nat.{mul-le-mul}
@@ -303,10 +303,6 @@ module _ (sel : List Attr) (part : PartPlan) (p r : Probe) (back : (read : Readi
   finish-some vs n e f g read =
       whole-left read ∙ ap (λ b. (if b then found (setting p.pairs.now.items sel part p.arriving p.row.now.items read) p.room.now.chosen.items ∷ [] else []) ++ left_of sel part read r) e
       ∙ (λ k. as_found (sym f k) (sym g k) ∷ left_of sel part read r)
-
-pub option_weaker : {T : Type 0} (o : Option T) (A B : Type 0) (P R : T → Type 0) → (A → B) → ((t : T) → P t → R t) → MatchOption o A P → MatchOption o B R
-option_weaker None A B P R f g h = f h
-option_weaker (Some t) A B P R f g h = g t h
 
 pub left-over : (sel : List Attr) (part : PartPlan) (read : Reading) (p : Probe) → p.over ≡ true → left_of sel part read p ≡ []
 unfolding left

@@ -1,24 +1,21 @@
 //! Cells equally far apart that the links leave where a walk begins, and a look along them for the first that is not empty.
 ghost use Rattle.std.specs.Prelude.{◌≡◌, ◌≢◌, ◌⊎◌, ◌+◌, ◌*◌, ◌<◌, ◌≤◌, ◌^◌, ◌≤ℤ◌, [], length, true, false, IfSome};
 ghost use Rattle.sem_query.specs.Boxes.{dim_size, box_size};
-ghost use Rattle.sem_query.specs.Combinations.{read_from};
 ghost use Rattle.sem_query.specs.Plan.{stream_at, dims_at};
 ghost use Rattle.exec_ranges.specs.Lined.{IsLine};
 ghost use Rattle.exec_ranges.specs.Narrowed.{narrowed_dims};
 ghost use Rattle.exec_ranges.specs.Values.{value_in};
-ghost use Rattle.exec_pool.specs.Extents.{cells_of, IsLive};
-ghost use Rattle.exec_join.specs.Along.{IsLongerLine, SeenAlong};
+ghost use Rattle.exec_join.specs.Along.{IsLongerLine};
 ghost use Rattle.exec_join.specs.declared.along.Along.TheVariants as along;
 ghost use Rattle.exec_synopsis.specs.Narrowing.{narrow};
 ghost use Rattle.exec_synopsis.specs.Premises.{IsLaidOut};
 ghost use Rattle.exec_synopsis.specs.Preparing.{IsPrepared};
 
 use crate::run::bound_place;
-use exec_pool::{Extent, Occupied, Pool, Steps, StridedCells};
+use exec_pool::Occupied;
 use exec_ranges::{Binding, RowAt, dim_size};
 use exec_synopsis::{binding_column, stream_at};
 use sem_query::{Dim, Link};
-use std::sync::ledger::Ledger;
 
 /// So many cells from one on, equally far apart.
 #[derive(Clone, Copy, Debug, PartialEq, Eq, Drop)]
@@ -62,14 +59,6 @@ pub fn is_nothing(seen: Along) -> bool
     }
 }
 
-// Whether there is no inequality.
-#[inline(always)]
-fn has_none(links: &[Link]) -> bool
-    ensures { result ≡ true → links.now ≡ [] }
-{
-    links.is_empty()
-}
-
 // The line with one dim more, where it stays one: known columns leave one value of the dim, or say nothing of it.
 #[inline(always)]
 fn longer_line(at: &RowAt<'_>, known: &[Binding], dim: Dim, line: CellLine) -> Option<CellLine>
@@ -105,7 +94,14 @@ fn longer_line(at: &RowAt<'_>, known: &[Binding], dim: Dim, line: CellLine) -> O
     })
 }
 
-/// Returns the cells that the links leave at the next place, where no inequality is one of them and the cells stand equally far apart.
+// Whether a known column is equal to one dim.
+#[inline(always)]
+fn is_bound(at: &RowAt<'_>, known: &[Binding], dim: Dim) -> bool {
+    binding_column(at.arriving, known.len(), dim.attr, at.part.equal.as_slice()).is_some()
+}
+
+/// Returns the cells that the links leave at the next place, where no inequality is one of them and the cells stand equally far apart; it may
+/// not return them where they hardly do.
 #[inline(always)]
 pub fn line_ahead(at: &RowAt<'_>, known: &[Binding]) -> Option<CellLine>
     requires here { length known.now < length at.now.part.now.streams.items }
@@ -115,10 +111,19 @@ pub fn line_ahead(at: &RowAt<'_>, known: &[Binding]) -> Option<CellLine>
     ensures line { IfSome result (λ line. IsLine (stream_at at.now.part.now (length known.now)).base (dims_at at.now.part.now (length known.now)) (narrowed_dims at.now.pairs.now at.now.part.now at.now.arriving at.now.row.now known.now) (record { first = line.first; stride = line.stride })) }
     ensures count { IfSome result (λ line. line.count ≡ box_size (narrowed_dims at.now.pairs.now at.now.part.now at.now.arriving at.now.row.now known.now)) }
 {
-    if !has_none(at.part.less.as_slice()) {
+    if !at.part.less.as_slice().is_empty() {
         return None;
     }
     let plan = stream_at(at.part, known.len());
+    // Where of three or more dims neither the first nor the last is bound, the cells mostly stand side by side and far from the next such
+    // cells: that spares the look at the dims between.
+    let dims = plan.dims.as_slice();
+    if dims.len() > 2
+        && !is_bound(at, known, dims[0])
+        && !is_bound(at, known, dims[dims.len() - 1])
+    {
+        return None;
+    }
     let mut line = CellLine {
         first: 0,
         stride: 1,
@@ -135,66 +140,4 @@ pub fn line_ahead(at: &RowAt<'_>, known: &[Binding]) -> Option<CellLine>
         stride: line.stride,
         count: line.count,
     })
-}
-
-// Whether a known column is equal to one dim.
-#[inline(always)]
-fn is_bound(at: &RowAt<'_>, known: &[Binding], dim: Dim) -> bool {
-    binding_column(at.arriving, known.len(), dim.attr, at.part.equal.as_slice()).is_some()
-}
-
-// Whether the cells that the links leave mostly stand side by side and far from the next such cells: of three or more dims neither the first
-// nor the last is bound. It spares the look at the dims between.
-#[inline(always)]
-fn stand_in_groups(at: &RowAt<'_>, known: &[Binding], dims: &[Dim]) -> bool {
-    if dims.len() < 3 || is_bound(at, known, dims[0]) {
-        return false;
-    }
-    !is_bound(at, known, dims[dims.len() - 1])
-}
-
-// What `line_ahead` returns, or nothing where the cells hardly stand equally far apart.
-#[inline(always)]
-fn likely_line(at: &RowAt<'_>, known: &[Binding]) -> Option<CellLine>
-    requires here { length known.now < length at.now.part.now.streams.items }
-    requires other { length known.now ≢ at.now.arriving }
-    requires prepared { IsPrepared at.now.pairs.now at.now.part.now at.now.prepared.now }
-    requires laid { IsLaidOut (stream_at at.now.part.now (length known.now)) (2 ^ 32) }
-    ensures line { IfSome result (λ line. IsLine (stream_at at.now.part.now (length known.now)).base (dims_at at.now.part.now (length known.now)) (narrowed_dims at.now.pairs.now at.now.part.now at.now.arriving at.now.row.now known.now) (record { first = line.first; stride = line.stride })) }
-    ensures count { IfSome result (λ line. line.count ≡ box_size (narrowed_dims at.now.pairs.now at.now.part.now at.now.arriving at.now.row.now known.now)) }
-{
-    if stand_in_groups(at, known, stream_at(at.part, known.len()).dims.as_slice()) {
-        return None;
-    }
-    line_ahead(at, known)
-}
-
-/// Looks along the cells that the links leave at the next place, where they stand equally far apart: each that is seen is one read.
-#[inline(always)]
-pub fn look_along<L: Ledger>(
-    pool: &Pool,
-    e: &Extent,
-    at: &RowAt<'_>,
-    known: &[Binding],
-    steps: &mut Steps<L>,
-) -> Along
-    requires here { length known.now < length at.now.part.now.streams.items }
-    requires other { length known.now ≢ at.now.arriving }
-    requires prepared { IsPrepared at.now.pairs.now at.now.part.now at.now.prepared.now }
-    requires live { IsLive pool.now e.now }
-    requires laid { IsLaidOut (stream_at at.now.part.now (length known.now)) (64 * e.now.pages) }
-    ensures seen { SeenAlong at.now.pairs.now at.now.part.now (read_from (cells_of pool.now e.now)) at.now.arriving at.now.row.now known.now steps.old.reads result steps.new.reads }
-    ensures writes { steps.new.writes ≡ steps.old.writes }
-{
-    let Some(line) = likely_line(at, known) else {
-        return Along::Unasked;
-    };
-    let cells = StridedCells {
-        first: line.first,
-        stride: line.stride,
-    };
-    match pool.first_occupied(e, cells, 0, line.count, steps) {
-        Some(filled) => Along::Found(filled),
-        None => Along::Nothing,
-    }
 }

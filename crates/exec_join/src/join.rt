@@ -35,23 +35,13 @@ fn value_of(row: &[i64], column: Option<u8>) -> i64
     }
 }
 
-// Whether a column is told.
-fn is_some(column: Option<u8>) -> bool
-    ensures { result ≡ is_some column }
-{
-    match column {
-        Some(_) => true,
-        None => false,
-    }
-}
-
 // Whether a column of the row is told for each of these columns.
 fn are_told(listed: &JoinLookup, arriving: u8, select: &[Attr]) -> bool
     ensures { result ≡ are_told listed.now arriving select.now }
 {
     select
         .iter()
-        .all(|a| is_some(listed.column_of(arriving, *a)))
+        .all(|a| listed.column_of(arriving, *a).is_some())
 }
 
 // Puts the values of the selected columns into a tuple, by the columns of the row that are told for them.

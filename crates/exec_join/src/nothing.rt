@@ -21,17 +21,6 @@ use exec_synopsis::Admitted;
 use sem_query::Tuple;
 use std::sync::ledger::Ledger;
 
-// What is told where it may be seen that there is no answer.
-fn nothing_where(seen: bool) -> FirstLook
-    ensures { result ≡ (if seen then look.Nothing else look.Unknown) }
-{
-    if seen {
-        FirstLook::Nothing
-    } else {
-        FirstLook::Unknown
-    }
-}
-
 /// Returns what is seen of the answers to a row before a walk begins, and puts the tuple where there is one. Where it is listed that one
 /// cell is left where a walk begins, there is none if that cell is empty, and over two streams that cell alone tells all; there is
 /// none where the cells are seen to be empty, side by side, that equalities leave where a walk begins; and none where the row's
@@ -58,10 +47,12 @@ pub fn look_before_walk<L: Ledger>(
     let row = at.row.as_slice();
     if streams > 3 {
         if has_single_cells(part.plan, at.pos) {
-            return nothing_where(false);
+            return FirstLook::Unknown;
         }
-        let seen = room.is_cut_off(pool, part.extent, part.plan, at.pos, row, steps);
-        return nothing_where(seen);
+        if room.is_cut_off(pool, part.extent, part.plan, at.pos, row, steps) {
+            return FirstLook::Nothing;
+        }
+        return FirstLook::Unknown;
     }
     let row_at = RowAt {
         pairs: part.q.pairs().as_slice(),
@@ -72,11 +63,15 @@ pub fn look_before_walk<L: Ledger>(
     };
     let Some(number) = room.first_cell(&row_at) else {
         if part.plan.equal.as_slice().is_empty() {
-            let seen = room.is_cut_off(pool, part.extent, part.plan, at.pos, row, steps);
-            return nothing_where(seen);
+            if room.is_cut_off(pool, part.extent, part.plan, at.pos, row, steps) {
+                return FirstLook::Nothing;
+            }
+            return FirstLook::Unknown;
         }
-        let clear = room.is_clear_ahead(pool, part.extent, &row_at, steps);
-        return nothing_where(clear);
+        if room.is_clear_ahead(pool, part.extent, &row_at, steps) {
+            return FirstLook::Nothing;
+        }
+        return FirstLook::Unknown;
     };
     let cell = pool.read(part.extent, number, steps);
     if is_empty(cell) {

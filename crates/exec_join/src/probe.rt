@@ -28,7 +28,7 @@ use crate::links::{meets_links, tuple_of};
 use crate::repeats::is_told;
 use crate::scratch::ProbeScratch;
 use arrayvec::ArrayVec;
-use exec_pool::{Extent, Occupied, Pool, Steps, StridedCells};
+use exec_pool::{Extent, Occupied, Pool, Steps};
 use exec_ranges::{Binding, RowAt, is_empty, rows_in, values_of};
 use exec_synopsis::{Prepared, stream_at};
 use sem_query::{Cell, Pair, PartPlan, Query, Row, Tuple, cell_index};
@@ -86,20 +86,6 @@ fn product_of(chosen: &[Binding]) -> u128
         product *= u128::from(rows_in(c.cell));
     }
     product
-}
-
-// The answer of a whole combination, where it meets the links: its tuple, and how often it is given.
-fn answer(q: &Query, at: &RowAt<'_>, chosen: &[Binding], tuple: &mut Tuple) -> Option<u128>
-    requires prepared { IsPrepared at.now.pairs.now at.now.part.now at.now.prepared.now }
-    requires light { (k : ℕ) → product_of (take k chosen.now) ≤ 2 ^ 120 }
-    ensures { MatchOption result (meets_links at.now.pairs.now at.now.part.now at.now.arriving at.now.row.now chosen.now ≡ false) (λ count. (meets_links at.now.pairs.now at.now.part.now at.now.arriving at.now.row.now chosen.now ≡ true) × (tuple.new.items ≡ tuple_of at.now.pairs.now q.now.select at.now.part.now at.now.arriving at.now.row.now chosen.now) × (count ≡ product_of chosen.now)) }
-{
-    if meets_links(at, chosen) {
-        tuple_of(at, chosen, q.select(), tuple);
-        Some(product_of(chosen))
-    } else {
-        None
-    }
 }
 
 impl<'a> Probe<'a> {
@@ -244,30 +230,6 @@ impl<'a> Probe<'a> {
         self.look_other(part);
     }
 
-    // One level less.
-    fn back(&mut self)
-        requires numbers { length self.old.room.now.chosen.items ≡ length self.old.room.now.numbers.items }
-        requires sizes { length self.old.room.now.sizes.items ≡ length self.old.room.now.numbers.items }
-        ensures { WentBack self.old self.new }
-    {
-        match self.room.numbers.pop() {
-            Some(n) => {
-                self.room.chosen.drop_last();
-                self.next = n;
-                self.size = self.room.sizes.pop().unwrap_or(0);
-            }
-            None => self.over = true,
-        }
-    }
-
-    // Whether no value is left to try at this level.
-    fn is_used_up(&self) -> bool
-        ensures yes { result ≡ true → (self.now.over ≡ false) × (self.now.size ≤ self.now.next) }
-        ensures no { result ≡ false → self.now.over ≡ false → self.now.next < self.now.size }
-    {
-        !self.over && self.next >= self.size
-    }
-
     // Back to the last level at which there is something left to try, past all where there is not.
     fn retreat(&mut self, q: &Query, part: &PartPlan)
         requires walked { IsWalked q.now part.now }
@@ -280,17 +242,20 @@ impl<'a> Probe<'a> {
     {
         // Named for the proof alone: the contract speaks of it.
         let _query = q;
-        self.back();
-        'levels: while self.is_used_up() {
-            self.back();
-        }
-        if self.over {
+        'levels: while let Some(next) = self.room.numbers.pop() {
+            self.room.chosen.drop_last();
+            self.next = next;
+            self.size = self.room.sizes.pop().unwrap_or(0);
+            if self.next >= self.size {
+                continue 'levels;
+            }
+            if self.level == self.room.chosen.len() {
+                return;
+            }
+            self.look(part);
             return;
         }
-        if self.level == self.room.chosen.len() {
-            return;
-        }
-        self.look(part);
+        self.over = true;
     }
 
     // On to the next level, in a cell that is not empty.
@@ -315,23 +280,6 @@ impl<'a> Probe<'a> {
         self.next = 0;
     }
 
-    // On to the next level, past that of the arriving row.
-    fn enter_own(&mut self, part: &PartPlan)
-        requires placed { IsPlaced part.now self.old }
-        requires own { length self.old.room.now.chosen.items ≡ self.old.arriving }
-        requires few { length part.now.streams.items ≤ 4 }
-        requires apart { self.old.level ≢ length self.old.room.now.chosen.items + 1 }
-        requires start { self.old.next ≡ 0 }
-        ensures entered { HasEntered [] Present self.old self.new }
-        ensures placed { IsPlaced part.now self.new }
-    {
-        // Named for the proof alone: the contract speaks of it.
-        let _part = part;
-        self.room.chosen.push_own();
-        self.room.numbers.push(self.next + 1);
-        self.room.sizes.push(1);
-    }
-
     // Past the level of the arriving row, where the walk stands before it: there is nothing to choose.
     fn pass_own(&mut self, part: &PartPlan)
         requires placed { IsPlaced part.now self.old }
@@ -348,8 +296,12 @@ impl<'a> Probe<'a> {
         ensures reads { reads_left part.now self.new ≤ reads_left part.now self.old }
         ensures turns { turns_left part.now self.new ≤ turns_left part.now self.old }
     {
+        // Named for the proof alone: the contract speaks of it.
+        let _part = part;
         if self.room.chosen.len() == self.arriving as usize {
-            self.enter_own(part);
+            self.room.chosen.push_own();
+            self.room.numbers.push(self.next + 1);
+            self.room.sizes.push(1);
         }
     }
 
@@ -415,92 +367,6 @@ impl<'a> Probe<'a> {
         self.open(q, part);
     }
 
-    // Cells on a line are read until one is not empty: the walk goes on in it, or back where all are.
-    fn try_line<L: Ledger>(
-        &mut self,
-        pool: &Pool,
-        e: &Extent,
-        q: &Query,
-        part: &PartPlan,
-        line: StridedCells,
-        steps: &mut Steps<L>,
-    )
-        requires ready { IsReady q.now part.now pool.now e.now }
-        requires underway { IsUnderway part.now self.old }
-        requires more { length self.old.room.now.chosen.items < length part.now.streams.items }
-        requires few { length part.now.streams.items ≤ 4 }
-        requires going { self.old.over ≡ false }
-        requires below { self.old.next < self.old.size }
-        requires on { StandOn part.now self.old.arriving (length self.old.room.now.chosen.items) (dims_now part.now self.old) (Some line) }
-        ensures underway { IsUnderway part.now self.new }
-        ensures left { left_of q.now.select part.now (read_from (cells_of pool.now e.now)) self.new ≡ left_of q.now.select part.now (read_from (cells_of pool.now e.now)) self.old }
-        ensures reads { steps.new.reads + reads_left part.now self.new ≤ steps.old.reads + reads_left part.now self.old }
-        ensures writes { steps.new.writes ≡ steps.old.writes }
-        ensures turns { turns_left part.now self.new < turns_left part.now self.old }
-    {
-        match pool.first_occupied(e, line, self.next, self.size, steps) {
-            Some(filled) => self.go_into(q, part, filled),
-            None => {
-                self.next = self.size;
-                self.retreat(q, part);
-            }
-        }
-    }
-
-    // One turn, where a stream is left: cells are read, and the walk goes on in one, past them, or back.
-    fn step<L: Ledger>(
-        &mut self,
-        pool: &Pool,
-        e: &Extent,
-        q: &Query,
-        part: &PartPlan,
-        steps: &mut Steps<L>,
-    )
-        requires ready { IsReady q.now part.now pool.now e.now }
-        requires underway { IsUnderway part.now self.old }
-        requires more { length self.old.room.now.chosen.items < length part.now.streams.items }
-        requires few { length part.now.streams.items ≤ 4 }
-        requires going { self.old.over ≡ false }
-        ensures underway { IsUnderway part.now self.new }
-        ensures left { left_of q.now.select part.now (read_from (cells_of pool.now e.now)) self.new ≡ left_of q.now.select part.now (read_from (cells_of pool.now e.now)) self.old }
-        ensures reads { steps.new.reads + reads_left part.now self.new ≤ steps.old.reads + reads_left part.now self.old }
-        ensures writes { steps.new.writes ≡ steps.old.writes }
-        ensures turns { turns_left part.now self.new < turns_left part.now self.old }
-    {
-        if self.next >= self.size {
-            self.retreat(q, part);
-            return;
-        }
-        match self.room.line {
-            Some(line) => self.try_line(pool, e, q, part, line, steps),
-            None => self.try_one(pool, e, q, part, steps),
-        }
-    }
-
-    // One turn, where all streams are chosen.
-    fn finish(&mut self, q: &Query, part: &PartPlan, tuple: &mut Tuple) -> Option<u128>
-        requires walked { IsWalked q.now part.now }
-        requires underway { IsUnderway part.now self.old }
-        requires whole { length self.old.room.now.chosen.items ≡ length part.now.streams.items }
-        requires few { length part.now.streams.items ≤ 4 }
-        requires going { self.old.over ≡ false }
-        ensures underway { IsUnderway part.now self.new }
-        ensures left { MatchOption result ((read : Reading) → left_of q.now.select part.now read self.old ≡ left_of q.now.select part.now read self.new) (λ count. (read : Reading) → left_of q.now.select part.now read self.old ≡ as_found tuple.new.items count ∷ left_of q.now.select part.now read self.new) }
-        ensures reads { reads_left part.now self.new ≤ reads_left part.now self.old }
-        ensures turns { turns_left part.now self.new < turns_left part.now self.old }
-    {
-        let at = RowAt {
-            pairs: self.pairs.as_slice(),
-            part,
-            prepared: self.prepared,
-            arriving: self.arriving,
-            row: self.row.as_slice(),
-        };
-        let found = answer(q, &at, self.room.chosen.as_slice(), tuple);
-        self.retreat(q, part);
-        found
-    }
-
     /// Returns the next combination that meets the links: puts its tuple into `tuple`, and gives the product of its counts. None
     /// comes exactly where nothing is left to give. What is read is paid from what was left to read, and no cell is written.
     pub fn next<L: Ledger>(
@@ -521,44 +387,38 @@ impl<'a> Probe<'a> {
     {
         let streams = part.streams.as_slice().len();
         'turns: while !self.over {
-            if self.room.chosen.len() < streams {
-                self.step(pool, e, q, part, steps);
+            if self.room.chosen.len() >= streams {
+                let at = RowAt {
+                    pairs: self.pairs.as_slice(),
+                    part,
+                    prepared: self.prepared,
+                    arriving: self.arriving,
+                    row: self.row.as_slice(),
+                };
+                let chosen = self.room.chosen.as_slice();
+                if meets_links(&at, chosen) {
+                    tuple_of(&at, chosen, q.select(), tuple);
+                    let count = product_of(chosen);
+                    self.retreat(q, part);
+                    return Some(count);
+                }
+                self.retreat(q, part);
+            } else if self.next >= self.size {
+                self.retreat(q, part);
             } else {
-                let found = self.finish(q, part, tuple);
-                if found.is_some() {
-                    return found;
+                match self.room.line {
+                    Some(line) => match pool.first_occupied(e, line, self.next, self.size, steps) {
+                        Some(filled) => self.go_into(q, part, filled),
+                        None => {
+                            self.next = self.size;
+                            self.retreat(q, part);
+                        }
+                    },
+                    None => self.try_one(pool, e, q, part, steps),
                 }
             }
         }
         None
-    }
-
-    // Whether DISTINCT leaves out a tuple that was given, and all that is left at this level is known to give this one.
-    fn tells(&self, q: &Query, part: &PartPlan, tuple: &Tuple) -> bool
-        requires prepared { IsPrepared self.now.pairs.now.items part.now self.now.prepared.now }
-        ensures distinct { result ≡ true → q.now.distinct ≡ true }
-        ensures going { result ≡ true → self.now.over ≡ false }
-        ensures told { result ≡ true → IsTold self.now.pairs.now.items q.now.select part.now self.now.arriving self.now.row.now.items self.now.room.now.chosen.items tuple.now.items }
-    {
-        if !q.distinct() {
-            return false;
-        }
-        if self.over {
-            return false;
-        }
-        let at = RowAt {
-            pairs: self.pairs.as_slice(),
-            part,
-            prepared: self.prepared,
-            arriving: self.arriving,
-            row: self.row.as_slice(),
-        };
-        is_told(
-            &at,
-            self.room.chosen.as_slice(),
-            q.select(),
-            tuple.as_slice(),
-        )
     }
 
     /// Passes what the walk would give next, as far as the cells chosen so far tell that it is this tuple again, where DISTINCT leaves
@@ -570,7 +430,21 @@ impl<'a> Probe<'a> {
         ensures left { (read : Reading) → ArePassed q.now.distinct tuple.now.items (left_of q.now.select part.now read self.old) (left_of q.now.select part.now read self.new) }
         ensures reads { reads_left part.now self.new ≤ reads_left part.now self.old }
     {
-        'levels: while self.tells(q, part, tuple) {
+        if !q.distinct() {
+            return;
+        }
+        'levels: while !self.over {
+            let at = RowAt {
+                pairs: self.pairs.as_slice(),
+                part,
+                prepared: self.prepared,
+                arriving: self.arriving,
+                row: self.row.as_slice(),
+            };
+            let known = self.room.chosen.as_slice();
+            if !is_told(&at, known, q.select(), tuple.as_slice()) {
+                return;
+            }
             self.retreat(q, part);
         }
     }

@@ -11,42 +11,24 @@ use exec_ranges::{Binding, RowAt, value_in};
 use exec_synopsis::is_known;
 use sem_query::Attr;
 
-// Whether the values of these columns are known before a place.
-fn are_known(arriving: u8, place: usize, columns: &[Attr]) -> bool
-    ensures { result ≡ list_all (is_known arriving place) columns.now }
-{
-    'columns: for column in columns {
-        if !is_known(arriving, place, *column) {
-            return false;
-        }
-    }
-    true
-}
-
-// Whether the values of these columns are these.
-fn have_values(at: &RowAt<'_>, known: &[Binding], columns: &[Attr], values: &[i64]) -> bool
+/// Returns whether the row and the cells that were chosen at the first places tell the values of all these columns, and these are they.
+pub fn is_told(at: &RowAt<'_>, known: &[Binding], columns: &[Attr], values: &[i64]) -> bool
     requires { IsPrepared at.now.pairs.now at.now.part.now at.now.prepared.now }
-    ensures { result ≡ true → tuple_of at.now.pairs.now columns.now at.now.part.now at.now.arriving at.now.row.now known.now ≡ values.now }
+    ensures { result ≡ true → IsTold at.now.pairs.now columns.now at.now.part.now at.now.arriving at.now.row.now known.now values.now }
 {
     if columns.len() != values.len() {
         return false;
     }
-    'columns: for i in 0..columns.len() {
+    'columns: for column in columns {
+        if !is_known(at.arriving, known.len(), *column) {
+            return false;
+        }
+    }
+    'values: for i in 0..columns.len() {
         let value = value_in(at, known, columns[i]);
         if !(value == values[i]) {
             return false;
         }
     }
     true
-}
-
-/// Returns whether the row and the cells that were chosen at the first places tell the values of all these columns, and these are they.
-pub fn is_told(at: &RowAt<'_>, known: &[Binding], columns: &[Attr], values: &[i64]) -> bool
-    requires { IsPrepared at.now.pairs.now at.now.part.now at.now.prepared.now }
-    ensures { result ≡ true → IsTold at.now.pairs.now columns.now at.now.part.now at.now.arriving at.now.row.now known.now values.now }
-{
-    if !are_known(at.arriving, known.len(), columns) {
-        return false;
-    }
-    have_values(at, known, columns, values)
 }

@@ -54,33 +54,6 @@ pub fn bound_place(at: &RowAt<'_>, known: &[Binding], dim: Dim, column: Attr) ->
     Some(offset(dim, value))
 }
 
-// The run with one dim more, where that is one too: known columns fix the first dims alone.
-fn longer(at: &RowAt<'_>, known: &[Binding], dim: Dim, run: CellRun) -> Option<CellRun>
-    requires prepared { IsPrepared at.now.pairs.now at.now.part.now at.now.prepared.now }
-    requires few { dim_size dim < 2 ^ 32 }
-    requires fits { (run.first + run.count) * dim_size dim < 2 ^ 32 }
-    ensures { IfSome result (λ more. IsLonger (narrow at.now.arriving (length known.now) at.now.part.now.equal.items at.now.part.now.less.items (value_in at.now.pairs.now at.now.part.now at.now.arriving at.now.row.now known.now) dim) dim run more × (more.count ≡ run.count * free_dim dim (binding_column at.now.arriving (length known.now) dim.attr at.now.part.now.equal.items))) }
-{
-    let size = dim_size(dim);
-    let Some(column) = binding_column(at.arriving, known.len(), dim.attr, at.part.equal.as_slice())
-    else {
-        return Some(CellRun {
-            first: run.first * size,
-            count: run.count * size,
-        });
-    };
-    if run.count != 1 {
-        return None;
-    }
-    let Some(place) = bound_place(at, known, dim, column) else {
-        return None;
-    };
-    Some(CellRun {
-        first: run.first * size + place,
-        count: 1,
-    })
-}
-
 /// Returns the cells that the equalities leave at the next place, where they stand side by side: known columns fix one value of each of the
 /// first dims, and of no other. They are no more than a walk tries there.
 pub fn run_of(at: &RowAt<'_>, known: &[Binding]) -> Option<CellRun>
@@ -95,10 +68,27 @@ pub fn run_of(at: &RowAt<'_>, known: &[Binding]) -> Option<CellRun>
     let plan = stream_at(at.part, known.len());
     let mut run = CellRun { first: 0, count: 1 };
     'dims: for dim in plan.dims.as_slice() {
-        let Some(next) = longer(at, known, *dim, run) else {
-            return None;
-        };
-        run = next;
+        let size = dim_size(*dim);
+        match binding_column(at.arriving, known.len(), dim.attr, at.part.equal.as_slice()) {
+            None => {
+                run = CellRun {
+                    first: run.first * size,
+                    count: run.count * size,
+                };
+            }
+            Some(column) => {
+                if run.count != 1 {
+                    return None;
+                }
+                let Some(place) = bound_place(at, known, *dim, column) else {
+                    return None;
+                };
+                run = CellRun {
+                    first: run.first * size + place,
+                    count: 1,
+                };
+            }
+        }
     }
     Some(CellRun {
         first: plan.base + run.first,

@@ -21,7 +21,7 @@ ghost use Rattle.exec_synopsis.specs.Preparing.{IsPrepared};
 ghost use Rattle.exec_ranges.specs.Narrowed.{narrowed_dims};
 ghost use Rattle.exec_synopsis.specs.Premises.{IsLaidOut, IsReady};
 
-use crate::along::{Along, look_along};
+use crate::along::{Along, line_ahead};
 use crate::beside::leaves_nothing;
 use crate::join::FirstLook;
 use crate::links::{meets_links, tuple_of};
@@ -32,7 +32,7 @@ use exec_ranges::{
     Counts, Dims, PartAt, RowAt, fixed_dims, is_empty, line_of, narrowed_dims, pinned_dims,
     rows_in, single_dims,
 };
-use exec_synopsis::{Admitted, is_scan, may_look_up, stream_at};
+use exec_synopsis::{Admitted, is_scan, stream_at};
 use sem_query::{Cell, Dim, PartPlan, Query, Tuple, size_of};
 use std::sync::ledger::Ledger;
 
@@ -44,31 +44,6 @@ pub struct ProbeScratch {
     pub(crate) sizes: Counts,
     pub(crate) dims: Dims,
     pub(crate) line: Option<StridedCells>,
-}
-
-// The line on which the cells stand for what there is to try at a place, if they stand on one.
-fn line_in(
-    part: &PartPlan,
-    arriving: u8,
-    place: usize,
-    dims: &[Dim],
-    size: u32,
-) -> Option<StridedCells>
-    requires here { place < length part.now.streams.items }
-    requires laid { place ≢ arriving → IsLaidOut (stream_at part.now place) (2 ^ 32) }
-    requires size { size ≡ box_size dims.now }
-    requires sound { AreNumbered dims.now }
-    requires inside { place ≢ arriving → 0 < box_size dims.now → AreInside (dims_at part.now place) (map (λ d. d.lo) dims.now) }
-    ensures { StandOn part.now arriving place dims.now result }
-{
-    if arriving as usize == place {
-        return None;
-    }
-    if size == 0 {
-        return None;
-    }
-    let plan = stream_at(part, place);
-    line_of(plan.base, plan.dims.as_slice(), dims)
 }
 
 impl ProbeScratch {
@@ -94,82 +69,8 @@ impl ProbeScratch {
         true
     }
 
-    // Sees the values to try after these choices, where known columns fix them all; else it may not tell.
-    fn look_fixed(&mut self, at: &RowAt<'_>) -> bool
-        requires more { length self.old.chosen.items < length at.now.part.now.streams.items }
-        requires prepared { IsPrepared at.now.pairs.now at.now.part.now at.now.prepared.now }
-        requires laid { length self.old.chosen.items ≢ at.now.arriving → IsLaidOut (stream_at at.now.part.now (length self.old.chosen.items)) (2 ^ 32) }
-        ensures chosen { self.new.chosen ≡ self.old.chosen }
-        ensures numbers { self.new.numbers ≡ self.old.numbers }
-        ensures sizes { self.new.sizes ≡ self.old.sizes }
-        ensures fixed { result ≡ true → (self.new.dims.items ≡ narrowed_dims at.now.pairs.now at.now.part.now at.now.arriving at.now.row.now self.old.chosen.items) × (box_size (narrowed_dims at.now.pairs.now at.now.part.now at.now.arriving at.now.row.now self.old.chosen.items) ≡ 1) × StandOn at.now.part.now at.now.arriving (length self.old.chosen.items) (narrowed_dims at.now.pairs.now at.now.part.now at.now.arriving at.now.row.now self.old.chosen.items) self.new.line }
-    {
-        let place = self.chosen.len();
-        if at.arriving as usize == place {
-            return false;
-        }
-        if !may_look_up(at.prepared.access(at.arriving, place)) {
-            return false;
-        }
-        let Some(first) = fixed_dims(at, self.chosen.as_slice(), &mut self.dims) else {
-            return false;
-        };
-        self.line = Some(StridedCells { first, stride: 1 });
-        true
-    }
-
-    // Sees the values to try after these choices, and tells for how many combinations, where no link with a known column
-    // says anything of them; else it may not tell.
-    fn look_whole(&mut self, at: &RowAt<'_>) -> Option<u32>
-        requires more { length self.old.chosen.items < length at.now.part.now.streams.items }
-        requires prepared { IsPrepared at.now.pairs.now at.now.part.now at.now.prepared.now }
-        requires laid { length self.old.chosen.items ≢ at.now.arriving → IsLaidOut (stream_at at.now.part.now (length self.old.chosen.items)) (2 ^ 32) }
-        ensures chosen { self.new.chosen ≡ self.old.chosen }
-        ensures numbers { self.new.numbers ≡ self.old.numbers }
-        ensures sizes { self.new.sizes ≡ self.old.sizes }
-        ensures whole { IfSome result (λ size. (self.new.dims.items ≡ narrowed_dims at.now.pairs.now at.now.part.now at.now.arriving at.now.row.now self.old.chosen.items) × (size ≡ box_size (narrowed_dims at.now.pairs.now at.now.part.now at.now.arriving at.now.row.now self.old.chosen.items)) × StandOn at.now.part.now at.now.arriving (length self.old.chosen.items) (narrowed_dims at.now.pairs.now at.now.part.now at.now.arriving at.now.row.now self.old.chosen.items) self.new.line) }
-    {
-        let place = self.chosen.len();
-        if at.arriving as usize == place {
-            return None;
-        }
-        if !is_scan(at.prepared.access(at.arriving, place)) {
-            return None;
-        }
-        let plan = stream_at(at.part, place);
-        self.dims.copy_from(plan.dims.as_slice());
-        self.line = Some(StridedCells {
-            first: plan.base,
-            stride: 1,
-        });
-        Some(plan.size)
-    }
-
-    // Sees which values there are to try after these choices, one dim after the other.
-    fn look_all(&mut self, at: &RowAt<'_>) -> u32
-        requires more { length self.old.chosen.items < length at.now.part.now.streams.items }
-        requires prepared { IsPrepared at.now.pairs.now at.now.part.now at.now.prepared.now }
-        requires laid { length self.old.chosen.items ≢ at.now.arriving → IsLaidOut (stream_at at.now.part.now (length self.old.chosen.items)) (2 ^ 32) }
-        ensures size { result ≡ box_size (narrowed_dims at.now.pairs.now at.now.part.now at.now.arriving at.now.row.now self.old.chosen.items) }
-        ensures dims { self.new.dims.items ≡ narrowed_dims at.now.pairs.now at.now.part.now at.now.arriving at.now.row.now self.old.chosen.items }
-        ensures chosen { self.new.chosen ≡ self.old.chosen }
-        ensures numbers { self.new.numbers ≡ self.old.numbers }
-        ensures sizes { self.new.sizes ≡ self.old.sizes }
-        ensures line { StandOn at.now.part.now at.now.arriving (length self.old.chosen.items) (narrowed_dims at.now.pairs.now at.now.part.now at.now.arriving at.now.row.now self.old.chosen.items) self.new.line }
-    {
-        narrowed_dims(at, self.chosen.as_slice(), &mut self.dims);
-        let size = size_of(self.dims.as_slice());
-        self.line = line_in(
-            at.part,
-            at.arriving,
-            self.chosen.len(),
-            self.dims.as_slice(),
-            size,
-        );
-        size
-    }
-
-    // Sees which values there are to try after these choices, and tells for how many combinations.
+    // Sees which values there are to try after these choices, and tells for how many combinations: one where known columns fix them all, the
+    // whole box where no link with a known column says anything of them, else what is left of one dim after the other.
     pub(crate) fn look_other(&mut self, at: &RowAt<'_>) -> u32
         requires more { length self.old.chosen.items < length at.now.part.now.streams.items }
         requires prepared { IsPrepared at.now.pairs.now at.now.part.now at.now.prepared.now }
@@ -181,13 +82,33 @@ impl ProbeScratch {
         ensures sizes { self.new.sizes ≡ self.old.sizes }
         ensures line { StandOn at.now.part.now at.now.arriving (length self.old.chosen.items) (narrowed_dims at.now.pairs.now at.now.part.now at.now.arriving at.now.row.now self.old.chosen.items) self.new.line }
     {
-        if self.look_fixed(at) {
+        let place = self.chosen.len();
+        if at.arriving as usize == place {
+            self.dims.clear();
+            self.line = None;
             return 1;
         }
-        if let Some(size) = self.look_whole(at) {
+        if let Some(first) = fixed_dims(at, self.chosen.as_slice(), &mut self.dims) {
+            self.line = Some(StridedCells { first, stride: 1 });
+            return 1;
+        }
+        let plan = stream_at(at.part, place);
+        if is_scan(at.prepared.access(at.arriving, place)) {
+            self.dims.copy_from(plan.dims.as_slice());
+            self.line = Some(StridedCells {
+                first: plan.base,
+                stride: 1,
+            });
+            return plan.size;
+        }
+        narrowed_dims(at, self.chosen.as_slice(), &mut self.dims);
+        let size = size_of(self.dims.as_slice());
+        if size == 0 {
+            self.line = None;
             return size;
         }
-        self.look_all(at)
+        self.line = line_of(plan.base, plan.dims.as_slice(), self.dims.as_slice());
+        size
     }
 
     // Takes up what a walk has chosen where it comes to its first cell.
@@ -319,7 +240,17 @@ impl ProbeScratch {
             arriving: at.pos,
             row: at.row.as_slice(),
         };
-        look_along(pool, part.extent, &row_at, self.chosen.as_slice(), steps)
+        let Some(line) = line_ahead(&row_at, self.chosen.as_slice()) else {
+            return Along::Unasked;
+        };
+        let cells = StridedCells {
+            first: line.first,
+            stride: line.stride,
+        };
+        match pool.first_occupied(part.extent, cells, 0, line.count, steps) {
+            Some(filled) => Along::Found(filled),
+            None => Along::Nothing,
+        }
     }
 
     /// Tells whether it is seen that the row's own columns leave no cell that holds anything at the last place that a walk comes to. Over

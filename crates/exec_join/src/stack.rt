@@ -27,26 +27,6 @@ impl Model for Bindings {
     ghost invariant = { λ choices. choices.depth ≤ 4 };
 }
 
-// Puts the combination of values at a place, and a cell, into an entry.
-fn put(entry: &mut Binding, dims: &[Dim], combinations: u32, place: u32, cell: Cell)
-    requires few { length dims.now ≤ 8 }
-    requires sound { AreNumbered dims.now }
-    requires size { combinations ≡ box_size dims.now }
-    requires below { place < combinations }
-    ensures { entry.new ≡ chosen (values_at dims.now place) cell }
-{
-    values_into(dims, combinations, place, &mut entry.values);
-    entry.cell = cell;
-}
-
-// Puts the arriving row into an entry: no values, and what stands for itself.
-fn put_own(entry: &mut Binding)
-    ensures { entry.new ≡ chosen [] Present }
-{
-    entry.values.clear();
-    entry.cell = Cell::Present;
-}
-
 impl Bindings {
     /// Returns how many there are.
     pub fn len(&self) -> usize
@@ -80,13 +60,9 @@ impl Bindings {
         requires below { place < combinations }
         ensures items { self.new.items ≡ self.old.items ++ chosen (values_at dims.now place) cell ∷ [] }
     {
-        put(
-            &mut self.entries[self.depth],
-            dims,
-            combinations,
-            place,
-            cell,
-        );
+        let entry = &mut self.entries[self.depth];
+        values_into(dims, combinations, place, &mut entry.values);
+        entry.cell = cell;
         self.depth += 1;
     }
 
@@ -95,7 +71,9 @@ impl Bindings {
         requires room { length self.old.items < 4 }
         ensures items { self.new.items ≡ self.old.items ++ chosen [] Present ∷ [] }
     {
-        put_own(&mut self.entries[self.depth]);
+        let entry = &mut self.entries[self.depth];
+        entry.values.clear();
+        entry.cell = Cell::Present;
         self.depth += 1;
     }
 

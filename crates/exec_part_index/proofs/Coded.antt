@@ -1,17 +1,18 @@
 -- The codes and the remaining conditions of the parts of a plan, as they are made.
-use Rattle.std.proofs.Common.{◌≡◌, ℕ, ◌+◌, ◌<◌, List, [], ◌∷◌, ◌++◌, drop, map, length, append_assoc, get_or, slice_get, Some, All, inl, inr, sym, ap, subst, ◌∙◌, arith, suc}
+use Rattle.std.proofs.Common.{◌≡◌, ℕ, ◌+◌, ◌<◌, ◌≤◌, ℤ, List, [], ◌∷◌, ◌++◌, drop, map, length, append_assoc, get_or, slice_get, Some, All, inl, inr, sym, ap, subst, ◌∙◌, arith, suc}
 use Rattle.std.proofs.Math.Seq.{drop-cons}
 use Rattle.std.proofs.lemmas.Bool.{cases_lt}
-use Rattle.std.proofs.lemmas.List.{get_or-map, get_or_past, length-map}
+use Rattle.std.proofs.lemmas.List.{drop_all, get_or-map, get_or_past, length-map}
 use Rattle.std.proofs.lemmas.Option.{slice_get_within}
 use Rattle.arrayvec.specs.ArrayVec.{ArrayVec}
 use Rattle.sem_query.specs.declared.part.Sign.{Sign}
+use Rattle.sem_query.specs.declared.part.Pair.{Pair}
 use Rattle.sem_query.specs.declared.plan.PartPlan.{PartPlan}
 use Rattle.sem_query.specs.Query.{QueryValue}
 use Rattle.exec_part_index.specs.declared.remaining.Remaining.{Remaining}
 use Rattle.exec_part_index.specs.declared.span.Span.{Span}
 use Rattle.exec_part_index.specs.declared.tests.Tested.{Tested}
-use Rattle.exec_part_index.specs.PartIndex.{code_after, HasCode, AsksOnly}
+use Rattle.exec_part_index.specs.PartIndex.{signs_at, code_after, row_code, HasCode, AsksOnly}
 use Rattle.exec_part_index.specs.Remaining.{AreRemaining}
 use Rattle.exec_part_index.specs.Showing.{shown_signs, AreShown}
 use Rattle.exec_part_index.specs.Span.{no_span, in_span, IsSpan}
@@ -32,6 +33,10 @@ codes_more signs i d codes more xs o within at is all done =
     ∙ append_assoc codes (o ∷ []) (coded (drop (i + 1) signs))
     ∙ ap (λ (ys : List ℕ). codes ++ ys) (sym rest)
     ∙ done
+
+-- the code of a row, where no pair is left
+pub code_done : (v : ℕ → ℤ) (tested : List Pair) (code i : ℕ) → length tested ≤ i → code_after code (signs_at v (drop i tested)) ≡ code_after 0 (signs_at v tested) → code ≡ row_code tested v
+code_done v tested code i past is = sym (ap (λ (ps : List Pair). code_after code (signs_at v ps)) (drop_all i tested past)) ∙ is
 
 module _ (q : QueryValue) (parts : List PartPlan) (place : ℕ) (t : Tested) (shown : AreShown q parts place t) (codes : List ℕ) (are : codes ≡ coded t.signs.items) where
   -- each part has a code

@@ -2,13 +2,14 @@
 use Rattle.std.proofs.Common.{◌≡◌, ◌≢◌, ℕ, ◌+◌, ◌-◌, ◌<◌, ◌≤◌, nat_eq, true, false, ℤ, List, map, bit_and, length, set, get_or, slice_get, Some, inl, inr, sym, ap, ◌∙◌, subst, arith, length-set}
 use Rattle.std.proofs.lemmas.Bool.Decides.{nat_tests}
 use Rattle.std.proofs.lemmas.List.{get_or-map, get_or-set_same, get_or-set_other, get_or_default, length-map}
+use Rattle.std.proofs.lemmas.Nat.{and_le_r}
 use Rattle.std.proofs.lemmas.Option.{slice_get_within}
 use Rattle.sem_query.specs.declared.plan.PartPlan.{PartPlan}
 use Rattle.sem_query.specs.Query.{QueryValue}
 use Rattle.sem_query.specs.Admission.{admits}
 use Rattle.sem_laws.proofs.Tests.{not_both, true_or_false, false_if, nat_true}
 use Rattle.exec_part_index.specs.declared.part_index.PartIndex.{PartIndex}
-use Rattle.exec_part_index.specs.PartIndex.{buckets, row_bucket, IsNext, AreLinked, IsPartIndex}
+use Rattle.exec_part_index.specs.PartIndex.{buckets, row_code, row_bucket, IsNext, AreLinked, IsPartIndex}
 
 -- the parts from n up to m do not admit the row
 abbrev pub NoneAdmits : QueryValue → List PartPlan → ℕ → (ℕ → ℤ) → ℕ → ℕ → Type 0
@@ -39,6 +40,16 @@ module _ (q : QueryValue) (parts : List PartPlan) (pos : ℕ) (c : PartIndex) (a
   pub hit_there : (n i : ℕ) → IsNext (buckets c) (row_bucket c v) n i
       → i < length parts → get_or (buckets c) i 0 ≡ row_bucket c v
   hit_there n i next l = next.there (let m = many_buckets q parts pos c are in omega (arith, m, l))
+
+-- the first part of the bucket of a row that has a code
+pub first_linked : (c : PartIndex) (v : ℕ → ℤ) (code i : ℕ) → AreLinked (buckets c) c.mask 0 c.heads.items c.links.items → code ≡ row_code c.tested.items v → i ≡ get_or c.heads.items (bit_and code c.mask) i
+    → IsNext (buckets c) (row_bucket c v) 0 i
+first_linked c v code i joined same is =
+    let b : ℕ = bit_and code c.mask in
+    let low : b ≤ c.mask = and_le_r code c.mask in
+    let many = joined.many in
+    let own : get_or c.heads.items b 0 ≡ i = get_or_default c.heads.items b 0 i (omega (arith, many, low)) ∙ sym is in
+    subst (λ n. IsNext (buckets c) (bit_and n c.mask) 0 i) same (subst (λ n. IsNext (buckets c) b 0 n) own (joined.first b low))
 
 -- the next part of the bucket of a part
 pub next_linked : (q : QueryValue) (parts : List PartPlan) (pos : ℕ) (c : PartIndex) → IsPartIndex q parts pos c → (i next : ℕ) → i < length parts → next ≡ get_or c.links.items i 0

@@ -19,12 +19,13 @@ use Rattle.exec_synopsis.specs.Axes.{IsPlacement}
 use Rattle.exec_synopsis.specs.Own as own_cells
 use Rattle.exec_synopsis.specs.Premises.{IsHeld}
 use Rattle.exec_synopsis.proofs.PlanLaws.{laid-from}
+use Rattle.exec_part_index.proofs.PreparedParts.{part_at}
 use Rattle.exec_part_index.proofs.Linked.{NoneAdmits, passed_by, hit_within, hit_there}
 use Rattle.exec_part_index.specs.declared.part_index.PartIndex.{PartIndex}
 use Rattle.exec_part_index.specs.PartIndex.{IsPartIndex, IsNext, buckets, row_bucket}
 use Rattle.exec_part_index.specs.declared.shift.CellAt.{CellAt}
 use Rattle.exec_part_index.specs.Shifts.{StandsAt}
-use Rattle.exec_part_index.specs.Leaving.{LeavesCells, IsCellOf, IsOnChain, HasPassed, told_of, LeavesCell}
+use Rattle.exec_part_index.specs.Leaving.{AreHeld, LeavesCells, IsCellOf, IsOnChain, HasPassed, LeavesCell}
 use Rattle.sem_query.specs.declared.cell.Cell.{Cell}
 use Rattle.sem_query.specs.Cells.{content}
 use Rattle.sem_query.specs.Merge.{merged}
@@ -40,6 +41,13 @@ cell-inside q part pos here several row pool e held number kind stands =
     let size = laid.size in
     let room = laid.room in
     omega (arith, below, own, size, room)
+
+-- so is the cell where a row stands in the part of a number
+pub stands-inside : (q : QueryValue) (parts : List PartPlan) (pos : ℕ) → pos < length q.from → 1 < length q.from → (row : List ℤ) (pool : PoolValue) (e : Extent) → AreHeld q parts pool e
+    → (i : ℕ) (cell : CellAt) → StandsAt q parts pos row i cell → cell.number < 64 * e.pages
+stands-inside q parts pos here several row pool e held i cell stands =
+    let there = part_at parts i stands.within in
+    cell-inside q there.0 pos here several row pool e (held i there.0 there.1) cell.number cell.kind (stands.stands there.0 there.1)
 
 -- the cell that was read says that the row leaves it as it is
 pub leaves-cell : (part : PartPlan) (pos : ℕ) (values : List ℤ) (cells : List Cell) (own : OwnCell) → IsOwnCell part pos values cells own → own_cells.with_row own values ≡ own.held
@@ -66,17 +74,17 @@ left-more q parts pool e pos values n i m before own none k part low high at_k a
 ]
 
 -- the own cell that is read where it is told
-pub cell-of : (parts : List PartPlan) (q : QueryValue) (pos : ℕ) (row : List ℤ) (pool : PoolValue) (e : Extent) (i : ℕ) (cell : CellAt) (own : OwnCell) → StandsAt q parts pos row i cell
-    → told_of own ≡ cell → own.held ≡ get_or (cells_of pool e) cell.number Empty → cell.number < 64 * e.pages → IsCellOf parts pos row pool e i own
-cell-of parts q pos row pool e i cell own stands told held inside = record {
+pub cell-of : (parts : List PartPlan) (q : QueryValue) (pos : ℕ) (row : List ℤ) (pool : PoolValue) (e : Extent) (i : ℕ) (cell : CellAt) (held : Cell) → StandsAt q parts pos row i cell
+    → held ≡ get_or (cells_of pool e) cell.number Empty → cell.number < 64 * e.pages → IsCellOf parts pos row pool e i (record { number = cell.number; kind = cell.kind; held = held })
+cell-of parts q pos row pool e i cell held stands is inside = record {
   own = λ part at_i.
       let c = (stands.stands part at_i).cell in
       record {
-        number = ap (λ (x : CellAt). x.number) told ∙ c.1;
-        kind = ap (λ (x : CellAt). x.kind) told ∙ c.2;
-        held = held ∙ ap (λ n. get_or (cells_of pool e) n Empty) c.1;
+        number = c.1;
+        kind = c.2;
+        held = is ∙ ap (λ n. get_or (cells_of pool e) n Empty) c.1;
       };
-  inside = (let t = ap (λ (x : CellAt). x.number) told in omega (arith, t, inside));
+  inside = inside;
 }
 
 module _ (q : QueryValue) (parts : List PartPlan) (pos : ℕ) (c : PartIndex) (are : IsPartIndex q parts pos c) (row : List ℤ) where

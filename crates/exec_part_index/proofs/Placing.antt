@@ -4,11 +4,13 @@ use Rattle.std.specs.List.{list_all}
 use Rattle.sem_query.specs.declared.plan.LocalCondition.{LocalCondition}
 use Rattle.sem_query.specs.declared.plan.PartPlan.{PartPlan}
 use Rattle.sem_query.specs.Query.{QueryValue}
+use Rattle.sem_query.specs.Parts.{pairs}
 use Rattle.sem_query.specs.Meaning.{by_column}
 use Rattle.sem_query.specs.Plan.{dims_at}
 use Rattle.sem_query.specs.Admission.{alone, meets_local, in_range, admits}
+use Rattle.exec_synopsis.specs.Keeping.{keeps_part}
 use Rattle.exec_synopsis.specs.declared.axes.Placement.{Placement}
-use Rattle.exec_synopsis.specs.Axes.{IsPlacement}
+use Rattle.exec_synopsis.specs.Axes.{is_inside, IsPlacement}
 use Rattle.exec_part_index.specs.declared.part_entry.PartEntry.{PartEntry}
 use Rattle.exec_part_index.specs.declared.part_index.PartIndex.{PartIndex}
 use Rattle.exec_part_index.specs.declared.span.Span.{Span}
@@ -47,4 +49,12 @@ module _ (q : QueryValue) (parts : List PartPlan) (place : ℕ) (c : PartIndex) 
   unmet fails = record {
     inside = sym (admits_if false fails ∙ and-false (list_all (in_range (by_column row)) (dims_at part place)) false refl);
     cell = tt;
+  }
+
+  -- a row outside of its box is outside of the part
+  pub outside_box : (placement : Placement) → IsPlacement part place row (list_all (in_range (by_column row)) (dims_at part place)) placement → is_inside placement ≡ false
+      → IsPlacement part place row (admits q part place (by_column row)) placement
+  outside_box placement there out = record {
+    inside = out ∙ sym (and-false (keeps_part (pairs q) part place (by_column row)) (list_all (in_range (by_column row)) (dims_at part place)) (sym there.inside ∙ out));
+    cell = there.cell;
   }

@@ -1,5 +1,6 @@
 -- A row's cell in the next part of a bucket.
 use Rattle.std.proofs.Common.{◌≡◌, ℕ, ◌+◌, ◌<◌, ◌^◌, ◌&&◌, nat_eq, Bool, true, false, ℤ, List, [], ◌∷◌, ◌++◌, length, get_or, slice_get, Option, Some, None, inl, inr, refl, sym, ap, ap₂, subst, ◌∙◌, arith}
+use Rattle.std.proofs.lemmas.List.{get_or_default}
 use Rattle.std.proofs.lemmas.Option.{slice_get-get_or, get_or_from_slice_get}
 use Rattle.std.specs.List.{list_all}
 use Rattle.std.specs.Option.{IfSome}
@@ -51,6 +52,14 @@ pub entry_in : (parts : List PartPlan) (place : ℕ) (codes links : List ℕ) (s
     → i < length parts → entry ≡ get_or entries i entry → IsPartEntry parts place codes links spans i entry
 entry_in parts place codes links spans entries i entry are inside at =
     are.each i entry (slice_get-get_or entries i entry (let m = are.many in omega (arith, m, inside)) ∙ ap (λ (x : PartEntry). Some x) (sym at))
+
+-- the same by a list that is given out
+pub entry_read : (parts : List PartPlan) (place : ℕ) (codes links : List ℕ) (spans : List Span) (entries given : List PartEntry) (i : ℕ) (d : PartEntry) → ArePartEntries parts place codes links spans entries
+    → given ≡ entries → i < length parts → IsPartEntry parts place codes links spans i (get_or given i d)
+entry_read parts place codes links spans entries given i d are same inside =
+    let these : ArePartEntries parts place codes links spans given = subst (λ (xs : List PartEntry). ArePartEntries parts place codes links spans xs) (sym same) are in
+    let many = these.many in
+    entry_in parts place codes links spans given i (get_or given i d) these inside (get_or_default given i d (get_or given i d) (omega (arith, many, inside)))
 
 -- one more
 pub entries_more : (parts : List PartPlan) (place : ℕ) (codes links : List ℕ) (spans : List Span) (entries : List PartEntry) (entry : PartEntry)

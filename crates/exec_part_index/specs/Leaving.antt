@@ -14,10 +14,8 @@ use Rattle.exec_synopsis.specs.declared.own.OwnCell.{OwnCell}
 use Rattle.exec_synopsis.specs.Axes.{IsPlacement}
 use Rattle.exec_synopsis.specs.Own.{IsOwnCell}
 use Rattle.exec_synopsis.specs.Premises.{IsHeld}
-use Rattle.exec_part_index.specs.declared.shift.CellAt.{CellAt}
 use Rattle.exec_part_index.specs.declared.part_index.PartIndex.{PartIndex}
 use Rattle.exec_part_index.specs.PartIndex.{buckets, row_bucket}
-use Rattle.exec_part_index.specs.Shift.{placed}
 use Rattle.exec_part_index.specs.declared.left.Met.{Met}
 use Rattle.exec_part_index.specs.declared.left.Reached.{Reached}
 
@@ -66,21 +64,12 @@ abbrev pub HasReached : QueryValue → List PartPlan → PartIndex → ℕ → L
 HasReached q parts c pos row pool extent n (Reached.Unasked m) = (n < m) × HasPassed q parts c pos row pool extent n m
 HasReached q parts c pos row pool extent n (Reached.Part met) = HasPassed q parts c pos row pool extent n met.i × IsMet q parts pos row pool extent met
 
--- the number and the kind of an own cell
-abbrev pub told_of : OwnCell → CellAt
-told_of own = record { number = own.number; kind = own.kind }
-
 -- how many cells were read where the own cell may be at hand
 abbrev pub reads_of : Option OwnCell → ℕ
 reads_of None = 0
 reads_of (Some own) = 1
 
--- the part that a row came to: the one where it turns its own cell, or one of which nothing is told
-abbrev pub reached_of : ℕ → Option OwnCell → Reached
-reached_of i None = Reached.Unasked i
-reached_of i (Some own) = Reached.Part (record { i = i; placement = placed (told_of own); own = Some own })
-
--- its number
+-- the number of the part that a row came to
 abbrev pub number_of : Reached → ℕ
 number_of (Reached.Unasked i) = i
 number_of (Reached.Part met) = met.i

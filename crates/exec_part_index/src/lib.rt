@@ -12,12 +12,11 @@ mod part_index;
 mod prepared;
 mod remaining;
 mod shift;
-mod shifts;
 mod simple_box;
 mod span;
 mod tests;
 
-pub use left::{Led, Reached, reach};
-pub use part_index::{CodedRow, IndexHit, PartIndex};
+pub use left::{Reached, reach};
+pub use part_index::{IndexHit, Led, PartIndex};
 pub use prepared::{PreparedPlan, prepare_all};
 pub use shift::CellAt;

@@ -1,5 +1,5 @@
 //! Which parts may admit a row: those whose signs the row has. Parts of one code stand in one bucket, a chain that one look-up finds.
-ghost use Rattle.std.specs.Prelude.{◌≡◌, ◌+◌, ◌*◌, ◌%◌, ◌^◌, ◌<◌, ◌≤◌, length, map, slice_get, slice_index_or, bit_and, true, Some, IfOk, IfSome};
+ghost use Rattle.std.specs.Prelude.{◌≡◌, ◌+◌, ◌*◌, ◌%◌, ◌^◌, ◌<◌, length, map, slice_get, slice_index_or, bit_and, true, Some, IfOk, IfSome};
 ghost use Rattle.std.specs.List.{list_all};
 ghost use Rattle.sem_query.specs.Parts.{pairs, sign, sign_at};
 ghost use Rattle.sem_query.specs.Meaning.{by_column};
@@ -10,21 +10,20 @@ ghost use Rattle.exec_synopsis.specs.Premises.{AreKeeping};
 ghost use Rattle.exec_part_index.specs.Prepared.{ArePrepared, IsPreparedPlan};
 ghost use Rattle.exec_part_index.specs.Leaving.{IsPlaced};
 ghost use Rattle.exec_part_index.specs.SimpleBox.{IsInBox};
-ghost use Rattle.exec_part_index.specs.Shift.{placed};
-ghost use Rattle.exec_part_index.specs.Shifts.{StandsAt};
-ghost use Rattle.exec_part_index.specs.PartEntry.{IsPartEntry, IsSimpleBoxOf, IsInBoxOf, IsCellIn};
+ghost use Rattle.exec_part_index.specs.Shifts.{HasNextAlike, IsNextShifted, StandsAt};
+ghost use Rattle.exec_part_index.specs.PartEntry.{IsPartEntry, ArePartEntries};
 ghost use Rattle.exec_part_index.specs.Owners.{BeginBehind, EachTakes, takes_rows};
 ghost use Rattle.exec_part_index.specs.Span.{in_span, IsSpan};
-ghost use Rattle.exec_part_index.specs.PartIndex.{signs_at, number_of, code_after, row_code, buckets, row_bucket, IsNext, AreLinked, IsPartIndex};
+ghost use Rattle.exec_part_index.specs.PartIndex.{number_of, code_after, row_code, buckets, row_bucket, IsNext, AreLinked, IsPartIndex};
 
 use crate::owners::{each_takes, owners_at};
-use crate::part_entry::{PartEntry, entries_of};
-use crate::prepared::PreparedPlan;
+use crate::part_entry::{PartEntry, simple_box_at};
+use crate::prepared::{PreparedPlan, prepared_of};
 use crate::remaining::remaining_at;
-use crate::shift::CellAt;
-use crate::shifts::Chained;
-use crate::span::Span;
+use crate::shift::{CellAt, Shift, shift_between};
+use crate::span::{Span, is_span};
 use crate::tests::tested_at;
+use exec_pool::Extent;
 use exec_synopsis::{Placement, Prepared, meets_local, placement_by_ranges};
 use sem_query::{
     LocalCondition, Pair, PartPlan, PartPlans, Query, Row, Sign, Signs, value_alone, value_at,
@@ -60,31 +59,30 @@ pub struct IndexHit {
     pub first: u32,
 }
 
-/// A row of the stream at a place of FROM, its code there, and the query and the parts that it is led to.
+/// A row of the stream at a place of FROM that is led to the parts of its bucket: its code, the chains of its place, whether each part takes rows
+/// into a box of its own, what the parts are asked, the extent of the cells, and whether it is known that a row which leaves its cell as it is
+/// is answered nothing new.
 #[derive(Clone, Copy)]
-pub struct CodedRow<'a> {
+pub struct Led<'a> {
     pub q: &'a Query,
     pub parts: &'a PartPlans,
     pub pos: u8,
     pub row: &'a Row,
     pub code: u32,
+    pub part_index: &'a PartIndex,
+    pub each: bool,
+    pub prepared: &'a PreparedPlan,
+    pub extent: &'a Extent,
+    pub known: bool,
 }
 
-// The number of the sign by which two integers stand to each other, without a branch.
-fn number_between(x: i64, y: i64) -> u32
-    ensures { result ≡ number_of (sign x y) }
-{
-    u32::from(y <= x) + u32::from(y < x)
-}
-
-// The number of the sign that a row has at a pair.
+// The number of the sign that a row has at a pair, without a branch.
 fn number_at(row: &[i64], pair: &Pair) -> u32
     ensures { result ≡ number_of (sign_at (alone (by_column row.now)) pair.now) }
 {
-    number_between(
-        value_at(row, pair.left.column),
-        value_alone(row, pair.right),
-    )
+    let left = value_at(row, pair.left.column);
+    let right = value_alone(row, pair.right);
+    u32::from(right <= left) + u32::from(right < left)
 }
 
 // The number of a sign.
@@ -104,25 +102,6 @@ fn with_number(code: u32, number: u32) -> u32
     ensures { result ≡ (code * 3 + number) % 2 ^ 32 }
 {
     code.wrapping_mul(3).wrapping_add(number)
-}
-
-// The bucket of a code.
-fn bucket_of_code(code: u32, mask: u32) -> u32
-    ensures bucket { result ≡ bit_and code mask }
-    ensures within { result ≤ mask }
-{
-    code & mask
-}
-
-// The code of a row, by the pairs that are tested.
-fn code_of_row(row: &[i64], tested: &[Pair]) -> u32
-    ensures { result ≡ code_after 0 (signs_at (by_column row.now) tested.now) }
-{
-    let mut code: u32 = 0;
-    'tests: for pair in tested {
-        code = with_number(code, number_at(row, pair));
-    }
-    code
 }
 
 // The code of signs.
@@ -145,11 +124,14 @@ impl PartIndex {
     {
         // Named for the proof alone: the contract speaks of it.
         let (_query, _parts, _pos) = (q, parts.len(), pos);
-        let code = code_of_row(row.as_slice(), self.tested.as_slice());
-        let bucket = bucket_of_code(code, self.mask);
+        let (values, tested) = (row.as_slice(), self.tested.as_slice());
+        let mut code: u32 = 0;
+        'tests: for pair in tested {
+            code = with_number(code, number_at(values, pair));
+        }
         IndexHit {
             code,
-            first: self.heads[bucket as usize],
+            first: self.heads[(code & self.mask) as usize],
         }
     }
 
@@ -181,68 +163,6 @@ impl PartIndex {
         &self.entries[i as usize]
     }
 
-    // The cell of a row in a part whose signs it has, where its box is listed and the row lies in it.
-    fn cell_in(&self, coded: &CodedRow<'_>, i: u32) -> Option<CellAt>
-        requires inside { i < length coded.now.parts.now }
-        requires part_index { IsPartIndex coded.now.q.now coded.now.parts.now coded.now.pos self.now }
-        ensures { IfSome result (λ cell. IsCellIn coded.now.parts.now coded.now.pos coded.now.row.now.items i cell) }
-    {
-        let entry = self.entry(coded.q, coded.parts, coded.pos, i);
-        let part = coded.parts.get(i);
-        cell_of(
-            entry
-                .simple_box
-                .placement(part, coded.pos, coded.row.as_slice()),
-        )
-    }
-
-    /// Returns the cell of a row in the next part of a part's bucket, where the row's cell in the part and the boxes of both tell it.
-    pub fn cell_after(
-        &self,
-        coded: &CodedRow<'_>,
-        part: &PartPlan,
-        placement: Placement,
-        i: u32,
-    ) -> Option<CellAt>
-        requires part_index { IsPartIndex coded.now.q.now coded.now.parts.now coded.now.pos self.now }
-        requires inside { i < length coded.now.parts.now }
-        requires part { slice_get coded.now.parts.now i ≡ Some part.now }
-        requires placement { IsPlacement part.now coded.now.pos coded.now.row.now.items (admits coded.now.q.now part.now coded.now.pos (by_column coded.now.row.now.items)) placement }
-        ensures { IfSome result (λ cell. StandsAt coded.now.q.now coded.now.parts.now coded.now.pos coded.now.row.now.items (slice_index_or self.now.links.items i 0) cell) }
-    {
-        // Named for the proof alone: the contract speaks of it.
-        let _part = part;
-        match placement {
-            Placement::Cell { number, kind } => {
-                let entry = self.entry(coded.q, coded.parts, coded.pos, i);
-                self.cell_behind(coded, CellAt { number, kind }, i, entry)
-            }
-            Placement::Inside | Placement::Outside => None,
-        }
-    }
-
-    /// Returns the same by what a row meets at the part, where it stands in a cell.
-    pub fn cell_behind(
-        &self,
-        coded: &CodedRow<'_>,
-        cell: CellAt,
-        i: u32,
-        entry: &PartEntry,
-    ) -> Option<CellAt>
-        requires part_index { IsPartIndex coded.now.q.now coded.now.parts.now coded.now.pos self.now }
-        requires entry { IsPartEntry coded.now.parts.now coded.now.pos self.now.codes.items self.now.links.items self.now.spans.items i entry.now }
-        requires stands { StandsAt coded.now.q.now coded.now.parts.now coded.now.pos coded.now.row.now.items i cell }
-        ensures { IfSome result (λ found. StandsAt coded.now.q.now coded.now.parts.now coded.now.pos coded.now.row.now.items (slice_index_or self.now.links.items i 0) found) }
-    {
-        // Named for the proof alone: the contract speaks of it.
-        let _part = i;
-        match entry.shift {
-            Some(shift) => Some(shift.after(cell.number)),
-            None if entry.follows => self.cell_in(coded, entry.next),
-            None => None,
-        }
-    }
-
     /// Returns whether each part takes rows into a box of its own.
     pub fn each_owns(&self, q: &Query, parts: &PartPlans, pos: u8) -> bool
         requires { IsPartIndex q.now parts.now pos self.now }
@@ -270,7 +190,7 @@ impl PartIndex {
     {
         // Named for the proof alone: the contract speaks of it.
         let _parts = parts.len();
-        each || mark_of(&self.owns, i)
+        each || self.owns[i as usize]
     }
 
     // Whether a row meets the conditions of a span.
@@ -282,84 +202,181 @@ impl PartIndex {
         are_met(row.as_slice(), conditions)
     }
 
-    // Where a row stands in a part by the ranges of the dims alone.
-    #[inline(always)]
-    fn placement_by_box(
-        &self,
-        coded: &CodedRow<'_>,
-        prepared: &PreparedPlan,
-        i: u32,
-        entry: &PartEntry,
-    ) -> Placement
-        requires here { coded.now.pos < length coded.now.q.now.from }
-        requires plan { AreKeeping coded.now.q.now coded.now.parts.now }
-        requires inside { i < length coded.now.parts.now }
-        requires prepared { IsPreparedPlan coded.now.q.now coded.now.parts.now prepared.now }
-        requires entry { IsSimpleBoxOf coded.now.parts.now coded.now.pos i entry.now.simple_box }
-        ensures { IsInBoxOf coded.now.parts.now coded.now.pos coded.now.row.now.items i result }
+    // Whether the next part of a part's bucket has the same code and the same remaining conditions.
+    fn has_next_alike(&self, parts: &PartPlans, i: u32) -> bool
+        requires inside { i < length parts.now }
+        requires codes { length self.now.codes.items ≡ length parts.now }
+        requires links { length self.now.links.items ≡ length parts.now }
+        requires spans { length self.now.spans.items ≡ length parts.now }
+        ensures { result ≡ true → HasNextAlike parts.now self.now.codes.items self.now.links.items self.now.spans.items i }
     {
-        let (q, parts) = (coded.q, coded.parts);
-        let part = parts.get(i);
-        let row = coded.row.as_slice();
-        match entry.simple_box.listed_placement(part, coded.pos, row) {
-            Some(placement) => placement,
-            None => { placement_by_dims(q, part, prepared.part(q, parts, i), coded.pos, coded.row) }
+        let next = self.links[i as usize];
+        if next >= parts.len() {
+            return false;
+        }
+        self.codes[i as usize] == self.codes[next as usize]
+            && is_span(self.spans[i as usize], self.spans[next as usize])
+    }
+
+    // How many cells later the box of the next part begins, where a row stands at the same place of both.
+    fn shift_at(
+        &self,
+        q: &Query,
+        parts: &PartPlans,
+        prepared: &[Prepared],
+        place: u8,
+        i: u32,
+    ) -> Option<Shift>
+        requires inside { i < length parts.now }
+        requires prepared { ArePrepared (pairs q.now) parts.now prepared.now }
+        requires codes { length self.now.codes.items ≡ length parts.now }
+        requires links { length self.now.links.items ≡ length parts.now }
+        requires spans { length self.now.spans.items ≡ length parts.now }
+        ensures { IfSome result (λ shift. IsNextShifted parts.now place self.now.codes.items self.now.links.items self.now.spans.items i shift) }
+    {
+        if !self.has_next_alike(parts, i) {
+            return None;
+        }
+        let next = self.links[i as usize];
+        let prepared = prepared_of(q, parts, prepared, next);
+        shift_between(q, parts.get(i), parts.get(next), prepared, place)
+    }
+
+    // What a row meets at the part of a number.
+    fn entry_at(
+        &self,
+        q: &Query,
+        parts: &PartPlans,
+        prepared: &[Prepared],
+        place: u8,
+        i: u32,
+    ) -> PartEntry
+        requires inside { i < length parts.now }
+        requires prepared { ArePrepared (pairs q.now) parts.now prepared.now }
+        requires codes { length self.now.codes.items ≡ length parts.now }
+        requires links { length self.now.links.items ≡ length parts.now }
+        requires spans { length self.now.spans.items ≡ length parts.now }
+        ensures { IsPartEntry parts.now place self.now.codes.items self.now.links.items self.now.spans.items i result }
+    {
+        PartEntry {
+            simple_box: simple_box_at(q, parts, prepared, place, i),
+            shift: self.shift_at(q, parts, prepared, place, i),
+            code: self.codes[i as usize],
+            next: self.links[i as usize],
+            span: self.spans[i as usize],
+            follows: self.has_next_alike(parts, i),
         }
     }
 
-    // Where a row that has the code of a part stands in it. What few parts want is given values alone, so that the view of a row stays out of memory.
-    #[inline(always)]
-    fn asked_placement(
+    // What a row meets at each part. An error says that memory was not found.
+    fn entries_of(
         &self,
-        coded: &CodedRow<'_>,
-        prepared: &PreparedPlan,
-        i: u32,
-        entry: &PartEntry,
-    ) -> Placement
-        requires here { coded.now.pos < length coded.now.q.now.from }
-        requires plan { AreKeeping coded.now.q.now coded.now.parts.now }
-        requires inside { i < length coded.now.parts.now }
-        requires part_index { IsPartIndex coded.now.q.now coded.now.parts.now coded.now.pos self.now }
-        requires prepared { IsPreparedPlan coded.now.q.now coded.now.parts.now prepared.now }
-        requires entry { IsPartEntry coded.now.parts.now coded.now.pos self.now.codes.items self.now.links.items self.now.spans.items i entry.now }
-        requires code { entry.now.code ≡ row_code self.now.tested.items (by_column coded.now.row.now.items) }
-        ensures { IsPlaced coded.now.q.now coded.now.parts.now coded.now.pos coded.now.row.now.items i result }
+        alloc: Global,
+        q: &Query,
+        parts: &PartPlans,
+        prepared: &[Prepared],
+        place: u8,
+    ) -> Result<Vec<PartEntry>, AllocError>
+        requires prepared { ArePrepared (pairs q.now) parts.now prepared.now }
+        requires codes { length self.now.codes.items ≡ length parts.now }
+        requires links { length self.now.links.items ≡ length parts.now }
+        requires spans { length self.now.spans.items ≡ length parts.now }
+        ensures { IfOk result (λ entries. ArePartEntries parts.now place self.now.codes.items self.now.links.items self.now.spans.items entries.items) }
     {
-        let placement = self.placement_by_box(coded, prepared, i, entry);
+        let mut entries: Vec<PartEntry> = Vec::with_capacity(alloc, parts.len() as usize)?;
+        'parts: for i in 0..parts.len() {
+            entries.push(self.entry_at(q, parts, prepared, place, i))?;
+        }
+        Ok(entries)
+    }
+}
+
+impl Led<'_> {
+    /// Returns the cell of a row in the next part of a part's bucket, where the row's cell in the part and the boxes of both tell it.
+    pub fn cell_after(&self, part: &PartPlan, placement: Placement, i: u32) -> Option<CellAt>
+        requires part_index { IsPartIndex self.now.q.now self.now.parts.now self.now.pos self.now.part_index.now }
+        requires inside { i < length self.now.parts.now }
+        requires part { slice_get self.now.parts.now i ≡ Some part.now }
+        requires placement { IsPlacement part.now self.now.pos self.now.row.now.items (admits self.now.q.now part.now self.now.pos (by_column self.now.row.now.items)) placement }
+        ensures { IfSome result (λ cell. StandsAt self.now.q.now self.now.parts.now self.now.pos self.now.row.now.items (slice_index_or self.now.part_index.now.links.items i 0) cell) }
+    {
+        // Named for the proof alone: the contract speaks of it.
+        let _part = part;
+        match placement {
+            Placement::Cell { number, kind } => {
+                let entry = self.part_index.entry(self.q, self.parts, self.pos, i);
+                self.cell_behind(CellAt { number, kind }, i, entry)
+            }
+            Placement::Inside | Placement::Outside => None,
+        }
+    }
+
+    /// Returns the same by what a row meets at the part, where it stands in a cell.
+    pub fn cell_behind(&self, cell: CellAt, i: u32, entry: &PartEntry) -> Option<CellAt>
+        requires part_index { IsPartIndex self.now.q.now self.now.parts.now self.now.pos self.now.part_index.now }
+        requires entry { IsPartEntry self.now.parts.now self.now.pos self.now.part_index.now.codes.items self.now.part_index.now.links.items self.now.part_index.now.spans.items i entry.now }
+        requires stands { StandsAt self.now.q.now self.now.parts.now self.now.pos self.now.row.now.items i cell }
+        ensures { IfSome result (λ found. StandsAt self.now.q.now self.now.parts.now self.now.pos self.now.row.now.items (slice_index_or self.now.part_index.now.links.items i 0) found) }
+    {
+        // Named for the proof alone: the contract speaks of it.
+        let _part = i;
+        match entry.shift {
+            Some(shift) => Some(CellAt {
+                number: cell.number + shift.cells,
+                kind: shift.kind,
+            }),
+            None if entry.follows => {
+                let (q, parts, next) = (self.q, self.parts, entry.next);
+                let following = self.part_index.entry(q, parts, self.pos, next);
+                let (part, row) = (parts.get(next), self.row.as_slice());
+                match following.simple_box.placement(part, self.pos, row) {
+                    Some(Placement::Cell { number, kind }) => Some(CellAt { number, kind }),
+                    _ => None,
+                }
+            }
+            None => None,
+        }
+    }
+
+    /// Returns where a row stands in the part of a number.
+    pub fn placement_of(&self, i: u32) -> Placement
+        requires here { self.now.pos < length self.now.q.now.from }
+        requires plan { AreKeeping self.now.q.now self.now.parts.now }
+        requires inside { i < length self.now.parts.now }
+        requires part_index { IsPartIndex self.now.q.now self.now.parts.now self.now.pos self.now.part_index.now }
+        requires prepared { IsPreparedPlan self.now.q.now self.now.parts.now self.now.prepared.now }
+        requires code { self.now.code ≡ row_code self.now.part_index.now.tested.items (by_column self.now.row.now.items) }
+        ensures { IsPlaced self.now.q.now self.now.parts.now self.now.pos self.now.row.now.items i result }
+    {
+        let entry = self.part_index.entry(self.q, self.parts, self.pos, i);
+        if entry.code != self.code {
+            return Placement::Outside;
+        }
+        let (part, row) = (self.parts.get(i), self.row.as_slice());
+        if entry.span.is_none() {
+            if let Some(placement) = entry.simple_box.placement(part, self.pos, row) {
+                return placement;
+            }
+        }
+        // What few parts want is given values alone, so that the view of a row stays out of memory.
+        let placement = match entry.simple_box.listed_placement(part, self.pos, row) {
+            Some(placement) => placement,
+            None => {
+                let prepared = self.prepared.part(self.q, self.parts, i);
+                placement_by_dims(self.q, part, prepared, self.pos, self.row)
+            }
+        };
         if !placement.is_inside() {
             return placement;
         }
         if entry.span.is_none() {
             return placement;
         }
-        if self.meets(entry.span, coded.row) {
+        if self.part_index.meets(entry.span, self.row) {
             placement
         } else {
             Placement::Outside
         }
-    }
-
-    /// Returns where a row stands in the part of a number.
-    pub fn placement_of(&self, coded: &CodedRow<'_>, prepared: &PreparedPlan, i: u32) -> Placement
-        requires here { coded.now.pos < length coded.now.q.now.from }
-        requires plan { AreKeeping coded.now.q.now coded.now.parts.now }
-        requires inside { i < length coded.now.parts.now }
-        requires part_index { IsPartIndex coded.now.q.now coded.now.parts.now coded.now.pos self.now }
-        requires prepared { IsPreparedPlan coded.now.q.now coded.now.parts.now prepared.now }
-        requires code { coded.now.code ≡ row_code self.now.tested.items (by_column coded.now.row.now.items) }
-        ensures { IsPlaced coded.now.q.now coded.now.parts.now coded.now.pos coded.now.row.now.items i result }
-    {
-        let entry = self.entry(coded.q, coded.parts, coded.pos, i);
-        if entry.code != coded.code {
-            return Placement::Outside;
-        }
-        if entry.span.is_none() {
-            let (part, row) = (coded.parts.get(i), coded.row.as_slice());
-            if let Some(placement) = entry.simple_box.placement(part, coded.pos, row) {
-                return placement;
-            }
-        }
-        self.asked_placement(coded, prepared, i, entry)
     }
 }
 
@@ -389,24 +406,6 @@ fn are_met(row: &[i64], conditions: &[LocalCondition]) -> bool
     conditions
         .iter()
         .all(|condition| meets_local(row, *condition))
-}
-
-// The cell where a row stands, where that is told.
-fn cell_of(placement: Option<Placement>) -> Option<CellAt>
-    ensures { IfSome result (λ cell. placement ≡ Some (placed cell)) }
-{
-    match placement {
-        Some(Placement::Cell { number, kind }) => Some(CellAt { number, kind }),
-        _ => None,
-    }
-}
-
-// The mark of a part.
-fn mark_of(all: &Vec<bool>, i: u32) -> bool
-    requires { i < length all.now.items }
-    ensures { slice_get all.now.items i ≡ Some result }
-{
-    all[i as usize]
 }
 
 // The number of the greatest bucket: there are at least twice as many buckets as parts, up to 4,096, and one where there are few parts.
@@ -453,7 +452,7 @@ fn chains_of(alloc: Global, codes: &[u32], count: u32, mask: u32) -> Result<Chai
     let mut i = count;
     'parts: while i > 0 {
         i -= 1;
-        let bucket = bucket_of_code(codes[i as usize], mask) as usize;
+        let bucket = (codes[i as usize] & mask) as usize;
         links[i as usize] = heads[bucket];
         heads[bucket] = i;
     }
@@ -481,13 +480,7 @@ pub fn part_index_at(
     let mask = mask_for(count);
     let Chains { heads, links } = chains_of(alloc, codes.as_slice(), count, mask)?;
     let remaining = remaining_at(alloc, q, parts, prepared, place, &tested, links.as_slice())?;
-    let chained = Chained {
-        codes: codes.as_slice(),
-        links: links.as_slice(),
-        spans: remaining.spans.as_slice(),
-    };
-    let entries = entries_of(alloc, q, parts, prepared, place, &chained)?;
-    Ok(PartIndex {
+    let mut part_index = PartIndex {
         tested: tested.pairs,
         conditions: remaining.conditions,
         spans: remaining.spans,
@@ -497,6 +490,9 @@ pub fn part_index_at(
         mask,
         heads,
         links,
-        entries,
-    })
+        entries: Vec::new(alloc),
+    };
+    let entries = part_index.entries_of(alloc, q, parts, prepared, place)?;
+    part_index.entries = entries;
+    Ok(part_index)
 }

@@ -1,5 +1,5 @@
 //! The parts of a plan, each worked out once, and which of them are asked of a row.
-ghost use Rattle.std.specs.Prelude.{◌≡◌, ◌<◌, true, length, slice_get, Some, IfOk};
+ghost use Rattle.std.specs.Prelude.{◌≡◌, ◌<◌, length, slice_get, Some, IfOk};
 ghost use Rattle.sem_query.specs.declared.plan.PartPlan.{PartPlan};
 ghost use Rattle.sem_query.specs.Parts.{pairs};
 ghost use Rattle.sem_query.specs.Numbers.{parts_of};
@@ -40,16 +40,24 @@ impl PreparedPlan {
     {
         // Named for the proof alone: the contract speaks of it.
         let _parts = parts.len();
-        part_index_of(&self.part_index, pos)
+        &self.part_index[usize::from(pos)]
     }
 }
 
-// The chains of a place.
-fn part_index_of(all: &Vec<PartIndex>, place: u8) -> &PartIndex
-    requires { place < length all.now.items }
-    ensures { slice_get all.now.items place ≡ Some result.now }
+/// Returns what a part is asked of every row.
+pub fn prepared_of<'a>(
+    q: &Query,
+    parts: &PartPlans,
+    prepared: &'a [Prepared],
+    i: u32,
+) -> &'a Prepared
+    requires inside { i < length parts.now }
+    requires prepared { ArePrepared (pairs q.now) parts.now prepared.now }
+    ensures { (part : PartPlan) → slice_get parts.now i ≡ Some part → IsPrepared (pairs q.now) part result.now }
 {
-    &all[usize::from(place)]
+    // Named for the proof alone: the contract speaks of them.
+    let (_query, _parts) = (q, parts.len());
+    &prepared[i as usize]
 }
 
 // What each part is asked of every row.

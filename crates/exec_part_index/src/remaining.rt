@@ -13,7 +13,7 @@ ghost use Rattle.exec_part_index.specs.Showing.{shown_signs, AreShown, IsAsking,
 ghost use Rattle.exec_part_index.specs.Remaining.{meets_any, AreRemaining};
 ghost use Rattle.plan_implied_signs.specs.Showing.{SaysCondition};
 
-use crate::shifts::prepared_of;
+use crate::prepared::prepared_of;
 use crate::span::Span;
 use crate::tests::{Asking, Tested};
 use exec_synopsis::Prepared;
@@ -29,14 +29,6 @@ use std::alloc::{AllocError, Global};
 pub struct Remaining {
     pub conditions: Vec<LocalCondition>,
     pub spans: Vec<Span>,
-}
-
-// Pairs, a sign of each, and how a row is asked for each pair of the query where these are tested.
-#[derive(Clone, Copy)]
-struct Signed<'a> {
-    pairs: &'a [Pair],
-    signs: &'a [Sign],
-    askings: &'a [Asking],
 }
 
 // Whether a condition asks for this sign of a pair, and for nothing else.
@@ -55,12 +47,12 @@ fn is_for_sign(pair: Pair, wanted: Sign, condition: LocalCondition) -> bool
 
 // Whether a condition asks for the sign of one of some pairs.
 #[tactic(auto, using(crate::proofs::RemainingLaws::said_or_not))]
-fn is_for_one(signed: &Signed<'_>, condition: LocalCondition) -> bool
-    requires { length signed.now.signs.now ≡ length signed.now.pairs.now }
-    ensures { result ≡ true → (v : ℕ → ℤ) → signs_at v signed.now.pairs.now ≡ signed.now.signs.now → meets_local (alone v) condition ≡ true }
+fn is_for_one(tested: &Tested, shown: &[Sign], condition: LocalCondition) -> bool
+    requires { length shown.now ≡ length tested.now.pairs.items }
+    ensures { result ≡ true → (v : ℕ → ℤ) → signs_at v tested.now.pairs.items ≡ shown.now → meets_local (alone v) condition ≡ true }
 {
-    'pairs: for (i, pair) in signed.pairs.iter().enumerate() {
-        if is_for_sign(*pair, signed.signs[i], condition) {
+    'pairs: for (i, pair) in tested.pairs.as_slice().iter().enumerate() {
+        if is_for_sign(*pair, shown[i], condition) {
             return true;
         }
     }
@@ -69,12 +61,12 @@ fn is_for_one(signed: &Signed<'_>, condition: LocalCondition) -> bool
 
 // Whether the sign of one of some pairs says that a condition holds.
 #[tactic(auto, using(crate::proofs::RemainingLaws::said_or_not))]
-fn is_said_by_one(signed: &Signed<'_>, condition: LocalCondition) -> bool
-    requires { length signed.now.signs.now ≡ length signed.now.pairs.now }
-    ensures { result ≡ true → (v : ℕ → ℤ) → signs_at v signed.now.pairs.now ≡ signed.now.signs.now → meets_local (alone v) condition ≡ true }
+fn is_said_by_one(tested: &Tested, shown: &[Sign], condition: LocalCondition) -> bool
+    requires { length shown.now ≡ length tested.now.pairs.items }
+    ensures { result ≡ true → (v : ℕ → ℤ) → signs_at v tested.now.pairs.items ≡ shown.now → meets_local (alone v) condition ≡ true }
 {
-    'pairs: for (i, pair) in signed.pairs.iter().enumerate() {
-        if says_condition(*pair, signed.signs[i], condition) {
+    'pairs: for (i, pair) in tested.pairs.as_slice().iter().enumerate() {
+        if says_condition(*pair, shown[i], condition) {
             return true;
         }
     }
@@ -82,11 +74,11 @@ fn is_said_by_one(signed: &Signed<'_>, condition: LocalCondition) -> bool
 }
 
 // Whether the signs of some pairs say that a condition holds. Most conditions ask for the sign of one of them, which is found sooner than what a sign says.
-fn is_said(signed: &Signed<'_>, condition: LocalCondition) -> bool
-    requires { length signed.now.signs.now ≡ length signed.now.pairs.now }
-    ensures { result ≡ true → (v : ℕ → ℤ) → signs_at v signed.now.pairs.now ≡ signed.now.signs.now → meets_local (alone v) condition ≡ true }
+fn is_said(tested: &Tested, shown: &[Sign], condition: LocalCondition) -> bool
+    requires { length shown.now ≡ length tested.now.pairs.items }
+    ensures { result ≡ true → (v : ℕ → ℤ) → signs_at v tested.now.pairs.items ≡ shown.now → meets_local (alone v) condition ≡ true }
 {
-    is_for_one(signed, condition) || is_said_by_one(signed, condition)
+    is_for_one(tested, shown, condition) || is_said_by_one(tested, shown, condition)
 }
 
 // The operator that says a sign.
@@ -158,14 +150,15 @@ fn of_condition(place: u8, condition: LocalCondition) -> Option<LocalCondition>
 #[tactic(auto, using(crate::proofs::RemainingLaws::pushed_all, crate::proofs::RemainingLaws::nothing_more))]
 fn ask(
     list: &mut Vec<LocalCondition>,
-    signed: &Signed<'_>,
+    tested: &Tested,
+    shown: &[Sign],
     condition: Option<LocalCondition>,
 ) -> Result<(), AllocError>
-    requires { length signed.now.signs.now ≡ length signed.now.pairs.now }
-    ensures { OnOk result ((v : ℕ → ℤ) → signs_at v signed.now.pairs.now ≡ signed.now.signs.now → list_all (meets_local (alone v)) list.new.items ≡ (list_all (meets_local (alone v)) list.old.items && meets_any v condition)) }
+    requires { length shown.now ≡ length tested.now.pairs.items }
+    ensures { OnOk result ((v : ℕ → ℤ) → signs_at v tested.now.pairs.items ≡ shown.now → list_all (meets_local (alone v)) list.new.items ≡ (list_all (meets_local (alone v)) list.old.items && meets_any v condition)) }
 {
     match condition {
-        Some(condition) if !is_said(signed, condition) => list.push(condition)?,
+        Some(condition) if !is_said(tested, shown, condition) => list.push(condition)?,
         _ => {}
     }
     Ok(())
@@ -173,39 +166,46 @@ fn ask(
 
 // Whether the pair at a place of these has this sign.
 #[tactic(auto, using(crate::proofs::RemainingLaws::has_sign))]
-fn is_signed(signed: &Signed<'_>, i: usize, pair: Pair, wanted: Sign) -> bool
-    requires full { length signed.now.signs.now ≡ length signed.now.pairs.now }
-    requires pair { slice_get signed.now.pairs.now i ≡ Some pair }
-    ensures { result ≡ true → (v : ℕ → ℤ) → signs_at v signed.now.pairs.now ≡ signed.now.signs.now → sign_eq (sign_at (alone v) pair) wanted ≡ true }
+fn is_signed(tested: &Tested, shown: &[Sign], i: usize, pair: Pair, wanted: Sign) -> bool
+    requires full { length shown.now ≡ length tested.now.pairs.items }
+    requires pair { slice_get tested.now.pairs.items i ≡ Some pair }
+    ensures { result ≡ true → (v : ℕ → ℤ) → signs_at v tested.now.pairs.items ≡ shown.now → sign_eq (sign_at (alone v) pair) wanted ≡ true }
 {
-    // Named for the proof alone: the contract speaks of it.
-    let _pair = pair;
-    is_same_sign(signed.signs[i], wanted)
+    // Named for the proof alone: the contract speaks of them.
+    let (_tested, _pair) = (tested, pair);
+    is_same_sign(shown[i], wanted)
 }
 
 // Whether what is asked of a pair by its sign is of another stream, or the pair is tested and has this sign.
-fn is_told(signed: &Signed<'_>, asking: Asking, place: u8, pair: Pair, wanted: Sign) -> bool
-    requires full { length signed.now.signs.now ≡ length signed.now.pairs.now }
-    requires asking { IsAsking place signed.now.pairs.now pair asking }
-    ensures { result ≡ true → (v : ℕ → ℤ) → signs_at v signed.now.pairs.now ≡ signed.now.signs.now → (not (is_within place pair.left pair.right) || sign_eq (sign_at (alone v) pair) wanted) ≡ true }
+fn is_told(
+    tested: &Tested,
+    shown: &[Sign],
+    asking: Asking,
+    place: u8,
+    pair: Pair,
+    wanted: Sign,
+) -> bool
+    requires full { length shown.now ≡ length tested.now.pairs.items }
+    requires asking { IsAsking place tested.now.pairs.items pair asking }
+    ensures { result ≡ true → (v : ℕ → ℤ) → signs_at v tested.now.pairs.items ≡ shown.now → (not (is_within place pair.left pair.right) || sign_eq (sign_at (alone v) pair) wanted) ≡ true }
 {
     // Named for the proof alone: the contract speaks of it.
     let _place = place;
     match asking {
         Asking::Elsewhere => true,
-        Asking::Tested(k) => is_signed(signed, usize::from(k), pair, wanted),
+        Asking::Tested(k) => is_signed(tested, shown, usize::from(k), pair, wanted),
         Asking::Untested => false,
     }
 }
 
 // How a row is asked for the sign of the pair of a number.
-fn asking_at(signed: &Signed<'_>, place: u8, pairs: &[Pair], i: usize) -> Asking
-    requires { AreAskings pairs.now place signed.now.pairs.now signed.now.askings.now }
-    ensures { (p : Pair) → slice_get pairs.now i ≡ Some p → IsAsking place signed.now.pairs.now p result }
+fn asking_at(tested: &Tested, place: u8, pairs: &[Pair], i: usize) -> Asking
+    requires { AreAskings pairs.now place tested.now.pairs.items tested.now.askings.items }
+    ensures { (p : Pair) → slice_get pairs.now i ≡ Some p → IsAsking place tested.now.pairs.items p result }
 {
     // Named for the proof alone: the contract speaks of them.
     let (_place, _pairs) = (place, pairs);
-    match signed.askings.get(i) {
+    match tested.askings.as_slice().get(i) {
         Some(asking) => *asking,
         None => Asking::Untested,
     }
@@ -214,25 +214,26 @@ fn asking_at(signed: &Signed<'_>, place: u8, pairs: &[Pair], i: usize) -> Asking
 // Adds what the pair of a number asks of a row by its sign, where the signs of some pairs do not say it. An error says that memory was not found.
 fn ask_number(
     list: &mut Vec<LocalCondition>,
-    signed: &Signed<'_>,
+    tested: &Tested,
+    shown: &[Sign],
     place: u8,
     pairs: &[Pair],
     signs: &[Sign],
     i: u8,
 ) -> Result<(), AllocError>
-    requires full { length signed.now.signs.now ≡ length signed.now.pairs.now }
-    requires askings { AreAskings pairs.now place signed.now.pairs.now signed.now.askings.now }
-    ensures { OnOk result ((v : ℕ → ℤ) → signs_at v signed.now.pairs.now ≡ signed.now.signs.now → list_all (meets_local (alone v)) list.new.items ≡ (list_all (meets_local (alone v)) list.old.items && keeps_pair place (alone v) (slice_get pairs.now i) (slice_get signs.now i))) }
+    requires full { length shown.now ≡ length tested.now.pairs.items }
+    requires askings { AreAskings pairs.now place tested.now.pairs.items tested.now.askings.items }
+    ensures { OnOk result ((v : ℕ → ℤ) → signs_at v tested.now.pairs.items ≡ shown.now → list_all (meets_local (alone v)) list.new.items ≡ (list_all (meets_local (alone v)) list.old.items && keeps_pair place (alone v) (slice_get pairs.now i) (slice_get signs.now i))) }
 {
     let i = usize::from(i);
     let (pair, sign) = (pairs.get(i).copied(), signs.get(i).copied());
-    let asking = asking_at(signed, place, pairs, i);
+    let asking = asking_at(tested, place, pairs, i);
     if let (Some(pair), Some(sign)) = (pair, sign) {
-        if is_told(signed, asking, place, pair, sign) {
+        if is_told(tested, shown, asking, place, pair, sign) {
             return Ok(());
         }
     }
-    ask(list, signed, of_test(place, pair, sign))
+    ask(list, tested, shown, of_test(place, pair, sign))
 }
 
 // What a part asks of a row that has these signs at these pairs, beside the ranges of its dims. An error says that memory was not found.
@@ -242,39 +243,34 @@ fn asked_beside(
     part: &PartPlan,
     prepared: &Prepared,
     place: u8,
-    signed: &Signed<'_>,
+    tested: &Tested,
+    shown: &[Sign],
 ) -> Result<Vec<LocalCondition>, AllocError>
-    requires full { length signed.now.signs.now ≡ length signed.now.pairs.now }
-    requires askings { AreAskings (pairs q.now) place signed.now.pairs.now signed.now.askings.now }
-    ensures { IfOk result (λ list. (v : ℕ → ℤ) → signs_at v signed.now.pairs.now ≡ signed.now.signs.now → list_all (meets_local (alone v)) list.items ≡ (keeps_tests place (alone v) (pairs q.now) part.now.signs.items prepared.now.tests.items && keeps_local place (alone v) prepared.now.asked.items)) }
+    requires full { length shown.now ≡ length tested.now.pairs.items }
+    requires askings { AreAskings (pairs q.now) place tested.now.pairs.items tested.now.askings.items }
+    ensures { IfOk result (λ list. (v : ℕ → ℤ) → signs_at v tested.now.pairs.items ≡ shown.now → list_all (meets_local (alone v)) list.items ≡ (keeps_tests place (alone v) (pairs q.now) part.now.signs.items prepared.now.tests.items && keeps_local place (alone v) prepared.now.asked.items)) }
 {
     let mut list: Vec<LocalCondition> = Vec::new(alloc);
     let (pairs, signs) = (q.pairs().as_slice(), part.signs.as_slice());
     'tests: for test in prepared.tests() {
-        ask_number(&mut list, signed, place, pairs, signs, *test)?;
+        ask_number(&mut list, tested, shown, place, pairs, signs, *test)?;
     }
     'asked: for condition in prepared.asked() {
-        ask(&mut list, signed, of_condition(place, *condition))?;
+        ask(&mut list, tested, shown, of_condition(place, *condition))?;
     }
     Ok(list)
 }
 
 // The signs that the part of a number shows at the tested pairs.
-fn signed_at<'a>(q: &Query, parts: &PartPlans, place: u8, tested: &'a Tested, i: u32) -> Signed<'a>
+fn shown_at<'a>(q: &Query, parts: &PartPlans, place: u8, tested: &'a Tested, i: u32) -> &'a [Sign]
     requires inside { i < length parts.now }
     requires shown { AreShown q.now parts.now place tested.now }
-    ensures pairs { result.pairs.now ≡ tested.now.pairs.items }
-    ensures signs { result.signs.now ≡ shown_signs tested.now i }
-    ensures full { length result.signs.now ≡ length result.pairs.now }
-    ensures askings { AreAskings (pairs q.now) place result.pairs.now result.askings.now }
+    ensures signs { result.now ≡ shown_signs tested.now i }
+    ensures full { length result.now ≡ length tested.now.pairs.items }
 {
     // Named for the proof alone: the contract speaks of them.
     let (_query, _parts, _place) = (q, parts.len(), place);
-    Signed {
-        pairs: tested.pairs.as_slice(),
-        signs: tested.signs[i as usize].as_slice(),
-        askings: tested.askings.as_slice(),
-    }
+    tested.signs[i as usize].as_slice()
 }
 
 // What the code of a row does not tell of the part of a number. An error says that memory was not found.
@@ -293,9 +289,9 @@ fn remaining_of_part(
     requires few { length tested.now.pairs.items ≤ 20 }
     ensures { IfOk result (λ list. (part : PartPlan) → slice_get parts.now i ≡ Some part → AsksOnly q.now part place tested.now.pairs.items (code_after 0 (shown_signs tested.now i)) list.items) }
 {
-    let signed = signed_at(q, parts, place, tested, i);
+    let shown = shown_at(q, parts, place, tested, i);
     let prepared = prepared_of(q, parts, prepared, i);
-    asked_beside(alloc, q, parts.get(i), prepared, place, &signed)
+    asked_beside(alloc, q, parts.get(i), prepared, place, tested, shown)
 }
 
 // Whether two operators are the same.

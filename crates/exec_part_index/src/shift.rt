@@ -1,5 +1,5 @@
 //! Boxes of two parts at one place of FROM that are the same but for where they begin: a row stands at the same place in both.
-ghost use Rattle.std.specs.Prelude.{◌≡◌, ◌+◌, ◌<◌, ◌^◌, length, IfSome, true};
+ghost use Rattle.std.specs.Prelude.{◌≡◌, ◌+◌, IfSome};
 ghost use Rattle.sem_query.specs.Parts.{pairs};
 ghost use Rattle.sem_query.specs.Sharing.{same_dim, same_dims};
 ghost use Rattle.exec_synopsis.specs.Preparing.{IsPrepared};
@@ -31,19 +31,6 @@ impl CellAt {
     {
         Placement::Cell {
             number: self.number,
-            kind: self.kind,
-        }
-    }
-}
-
-impl Shift {
-    /// Returns the cell of a row by its cell in the part whose box begins earlier.
-    pub fn after(self, number: u32) -> CellAt
-        requires { number + self.cells < 2 ^ 32 }
-        ensures { result ≡ record { number = number + self.cells; kind = self.kind } }
-    {
-        CellAt {
-            number: number + self.cells,
             kind: self.kind,
         }
     }

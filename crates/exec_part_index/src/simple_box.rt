@@ -4,7 +4,7 @@ ghost use Rattle.sem_query.specs.Meaning.{by_column};
 ghost use Rattle.sem_query.specs.Plan.{dims_at};
 ghost use Rattle.sem_query.specs.Admission.{in_range};
 ghost use Rattle.exec_synopsis.specs.Axes.{IsAbove, IsShort, IsBoxLayout};
-ghost use Rattle.exec_part_index.specs.SimpleBox.{IsSimpleBox, IsOneDimBox, IsTwoDimBox, IsInBox, axis_in};
+ghost use Rattle.exec_part_index.specs.SimpleBox.{IsSimpleBox, IsInBox, axis_in};
 
 use crate::shift::CellAt;
 use exec_synopsis::{BoxLayout, Placement};
@@ -65,46 +65,6 @@ impl DimRange {
     }
 }
 
-impl OneDimBox {
-    // Where a row stands in the part.
-    fn placement(self, part: &PartPlan, pos: u8, row: &[i64]) -> Placement
-        requires { IsOneDimBox part.now pos self }
-        ensures { IsInBox part.now pos row.now result }
-    {
-        // Named for the proof alone: the contract speaks of them.
-        let (_part, _pos) = (part, pos);
-        match self.range.offset_in(row) {
-            Some(offset) => Placement::Cell {
-                number: self.base + offset,
-                kind: self.kind,
-            },
-            None => Placement::Outside,
-        }
-    }
-}
-
-impl TwoDimBox {
-    // Where a row stands in the part. It is inlined: to call it costs as much as to do it.
-    #[inline(always)]
-    fn placement(&self, part: &PartPlan, pos: u8, row: &[i64]) -> Placement
-        requires { IsTwoDimBox part.now pos self.now }
-        ensures { IsInBox part.now pos row.now result }
-    {
-        // Named for the proof alone: the contract speaks of them.
-        let (_part, _pos) = (part, pos);
-        let Some(line) = self.first.offset_in(row) else {
-            return Placement::Outside;
-        };
-        match self.second.offset_in(row) {
-            Some(offset) => Placement::Cell {
-                number: self.base + (line * self.second.size + offset),
-                kind: self.kind,
-            },
-            None => Placement::Outside,
-        }
-    }
-}
-
 impl SimpleBox {
     /// Returns where a row stands by the ranges of the dims, where the box has at most one and there is a cell.
     #[inline(always)]
@@ -112,9 +72,17 @@ impl SimpleBox {
         requires { IsSimpleBox part.now pos self }
         ensures { IfSome result (λ placement. IsInBox part.now pos row.now placement) }
     {
+        // Named for the proof alone: the contract speaks of them.
+        let (_part, _pos) = (part, pos);
         match self {
             SimpleBox::Cell(cell) => Some(cell.placement()),
-            SimpleBox::OneDim(single) => Some(single.placement(part, pos, row)),
+            SimpleBox::OneDim(single) => match single.range.offset_in(row) {
+                Some(offset) => Some(Placement::Cell {
+                    number: single.base + offset,
+                    kind: single.kind,
+                }),
+                None => Some(Placement::Outside),
+            },
             SimpleBox::Unlisted | SimpleBox::TwoDim(_) | SimpleBox::Range(_) => None,
         }
     }
@@ -126,7 +94,18 @@ impl SimpleBox {
         ensures { IfSome result (λ placement. IsInBox part.now pos row.now placement) }
     {
         match self {
-            SimpleBox::TwoDim(double) => Some(double.placement(part, pos, row)),
+            SimpleBox::TwoDim(double) => {
+                let Some(line) = double.first.offset_in(row) else {
+                    return Some(Placement::Outside);
+                };
+                match double.second.offset_in(row) {
+                    Some(offset) => Some(Placement::Cell {
+                        number: double.base + (line * double.second.size + offset),
+                        kind: double.kind,
+                    }),
+                    None => Some(Placement::Outside),
+                }
+            }
             SimpleBox::Range(dim) => Some(placement_in(part, pos, *dim, row)),
             _ => self.placement(part, pos, row),
         }

@@ -4,7 +4,7 @@ ghost use Rattle.sem_query.specs.Parts.{pairs};
 ghost use Rattle.exec_part_index.specs.Prepared.{ArePrepared};
 ghost use Rattle.exec_part_index.specs.Showing.{pairs_tested, IsShownBy, AreSignsOf, AreShown, IsAsking, AreAskings};
 
-use crate::shifts::prepared_of;
+use crate::prepared::prepared_of;
 use arrayvec::ArrayVec;
 use exec_synopsis::Prepared;
 use plan_implied_signs::{Test, says_condition, shown_sign};

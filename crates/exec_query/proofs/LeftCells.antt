@@ -28,12 +28,15 @@ use Rattle.exec_query.proofs.Inserting.{get_has}
 use Rattle.exec_query.proofs.HeldParts.{held-part}
 use Rattle.exec_query.proofs.PartCells.{taken_step, table_more, work_more}
 use Rattle.exec_query.proofs.OldAnswers.{old-adds-none}
-use Rattle.exec_query.proofs.OwnCells.{left-alone, old-now, known-of}
+use Rattle.exec_query.proofs.OwnCells.{left-alone, old-now}
 use Rattle.exec_query.proofs.PassedOver.{HaveDone, passed_one}
 
-or_true : (b : Bool) → (b || true) ≡ true
-or_true true = refl
-or_true false = refl
+-- what is known before the row is known of cells of their own, and of all as long as no cell changed
+known-of : (known each same : Bool) → (known && (each || same)) ≡ true → (known ≡ true) × ((each ≡ true) ⊎ (same ≡ true))
+known-of true true same h = (refl, inl refl)
+known-of true false true h = (refl, inr refl)
+known-of true false false h = absurd cc
+known-of false each same h = absurd cc
 
 -- all parts have their cells in the extent, while the parts take a row
 pub held-parts : (q : QueryValue) (plan : List PartPlan) (e : Extent) (pos : ℕ) (here : pos < length q.from) (values : List ℤ) (before : PoolValue) (ready : AreReady q plan before e) (now : PoolValue)
@@ -56,14 +59,14 @@ module _ (q : QueryValue) (plan : List PartPlan) (e : Extent) (pos : ℕ) (here 
         found =
             table_more q plan e pos here values before ready n part at_n now done.taken q.distinct start table table done.found
             (old-adds-none q.distinct _ table
-            (old-now q plan e pos here values before ready n part at_n now done.taken owns same refl unchanged true start table (λ h. tells) done.found admitted (is_known either n part at_n) leaves));
+            (old-now q plan e pos here values before ready n part at_n now done.taken owns refl same unchanged start table tells done.found admitted (is_known either n part at_n) leaves));
         reads = (let c = done.reads in omega (arith, more, c));
         writes = (let c = done.writes in omega (arith, c));
       }
     where
-      is_known : (each ≡ true) ⊎ (same ≡ true) → (n : ℕ) (part : PartPlan) → slice_get plan n ≡ Some part → (takes_rows q plan pos n part || same) ≡ true
-      is_known (inl o) n part at_n = ap (λ b. b || same) (all o n part at_n)
-      is_known (inr s) n part at_n = ap (λ b. takes_rows q plan pos n part || b) s ∙ or_true (takes_rows q plan pos n part)
+      is_known : (each ≡ true) ⊎ (same ≡ true) → (n : ℕ) (part : PartPlan) → slice_get plan n ≡ Some part → (takes_rows q plan pos n part ≡ true) ⊎ (same ≡ true)
+      is_known (inl o) n part at_n = inl (all o n part at_n)
+      is_known (inr s) n part at_n = inr s
 
   -- what was read for one part more is paid by it
   one_paid : (n : ℕ) (steps others : StepsValue) → others.reads ≤ steps.reads + 1 → others.writes ≤ steps.writes → (part : PartPlan) → slice_get plan n ≡ Some part

@@ -38,7 +38,7 @@ pub mod DirectLaws
 pub mod OwnCells
 pub mod PassingOn
 pub mod OnlyPart
-pub mod Putting
+pub mod ByPlan
 pub mod LeftCells
 pub mod RowReads
 pub mod CursorCells

@@ -1,11 +1,10 @@
 -- Whether FROM names the stream of a row; and a filter's own answer.
-use Rattle.std.proofs.Common.{◌≡◌, ℕ, ◌<◌, ◌==◌, Bool, true, false, List, [], ◌∷◌, ◌&&◌, subst, length, get_or, map, sym, ap, ◌∙◌, Option, Some, None, ℤ, cond, ◌≤◌, nat_lt, arith}
+use Rattle.std.proofs.Common.{◌≡◌, ℕ, ◌==◌, Bool, true, false, List, [], ◌∷◌, ◌&&◌, subst, length, get_or, map, sym, ap, ◌∙◌, Option, Some, None, ℤ, cond, ◌≤◌, nat_lt, arith}
 use Rattle.std.specs.List.{position, position_or_len, list_any}
 use Rattle.std.specs.Option.{option_to_list}
-use Rattle.std.proofs.lemmas.List.Quantifiers.{position-Some}
 use Rattle.std.proofs.lemmas.Bool.Decides.{nat_tests}
 use Rattle.std.proofs.lemmas.List.Sums.{fails_before_first}
-use Rattle.std.proofs.lemmas.List.Folds.{list_any_at, list_any_none}
+use Rattle.std.proofs.lemmas.List.Folds.{list_any_none}
 use Rattle.sem_query.specs.declared.plan.PartPlan.{PartPlan}
 use Rattle.sem_query.specs.Query.{QueryValue, IsWithinLimits}
 use Rattle.sem_query.specs.declared.atom.Attr.{Attr}
@@ -17,7 +16,6 @@ use Rattle.sem_query.specs.Combinations.{Found, Reading}
 use Rattle.sem_query.specs.declared.plan.Numbers.{Numbers}
 use Rattle.sem_query.specs.declared.plan.Plan.{Plan}
 use Rattle.sem_query.specs.declared.plan.Plan.TheVariants as plan
-use Rattle.sem_laws.proofs.Tests.{nat_true}
 use Rattle.exec_pool.specs.declared.pool.Extent.{Extent}
 use Rattle.exec_pool.specs.Extents.{PoolValue, cells_of, IsLive}
 use Rattle.exec_answer_table.specs.Entries.{TableValue, with_entries, Fits}
@@ -25,12 +23,6 @@ use Rattle.exec_query.specs.FoundTable.{with_all, with_found, HaveRoom}
 use Rattle.exec_query.specs.CellSteps.{own_found, all_found, answered_by, HasTaken}
 use Rattle.exec_query.proofs.Inserting.{inserted_outside}
 use Rattle.exec_query.proofs.PartCells.{with_own}
-
-pub named_there : (stream : ℕ) (from : List ℕ) (place : ℕ) → position (λ s. stream == s) from ≡ Some place
-    → (place < length from) × (get_or from place 0 ≡ stream) × (list_any (λ s. stream == s) from ≡ true)
-named_there stream from place e =
-    let h = position-Some (λ s. stream == s) from place 0 e in
-    (h.0, sym (nat_true stream (get_or from place 0) h.1), list_any_at (λ s. stream == s) from place 0 h.0 h.1)
 
 none_from_cond : (a b : ℕ) → cond (nat_lt a b) (Some a) None ≡ None → b ≤ a
 none_from_cond a b e = grind (arith, nat_tests)

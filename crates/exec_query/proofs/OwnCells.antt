@@ -1,5 +1,5 @@
 -- A part and the cell that a row falls into: where it is left as it is, and what is known of it while the parts take the row.
-use Rattle.std.proofs.Common.{◌≡◌, ℕ, ◌<◌, ◌&&◌, ◌||◌, not, ◌⊎◌, inl, inr, cond, Bool, true, false, ℤ, List, length, take, sym, ap, ◌∙◌, subst, refl, arith, slice_get, Some, Contains}
+use Rattle.std.proofs.Common.{◌≡◌, ℕ, ◌<◌, ◌&&◌, not, ◌⊎◌, inl, inr, cond, Bool, true, false, ℤ, List, length, take, sym, ap, ◌∙◌, subst, refl, arith, slice_get, Some, Contains}
 use Rattle.sem_query.specs.declared.cell.Cell.{Cell}
 use Rattle.sem_query.specs.declared.plan.PartPlan.{PartPlan}
 use Rattle.sem_query.specs.Query.{QueryValue}
@@ -23,7 +23,7 @@ use Rattle.exec_query.specs.FoundTable.{with_all, AreOld}
 use Rattle.exec_query.specs.CellSteps.{arrives, all_found, with_row, HasTaken, CanCount, AreReady, AnswersNothingNew}
 use Rattle.exec_part_index.specs.Leaving.{LeavesCell}
 use Rattle.exec_part_index.specs.Owners.{takes_rows}
-use Rattle.exec_part_index.proofs.Owning.{first-has, has-several}
+use Rattle.exec_part_index.proofs.Owning.{first-has}
 use Rattle.exec_query.proofs.InPart.{place_inside}
 use Rattle.exec_query.proofs.Inserting.{part_plan, get_has}
 use Rattle.exec_query.proofs.PartCells.{same_owned, found_now}
@@ -44,41 +44,19 @@ module _ (q : QueryValue) (part : PartPlan) (pos : ℕ) (values : List ℤ) (e :
       by true = stays-put pool e part pos values own live o stays
       by false = refl
 
-  -- a part that takes rows into no box of its own leaves the pool as it is
-  pub not-owned : (owns : Bool) (after : PoolValue) → owns ≡ false → after ≡ pool → after ≡ with_row owns q part pos values e pool
-  not-owned owns after o same = same ∙ by (admits q part pos (by_column values)) ∙ ap (λ b. with_row b q part pos values e pool) (sym o)
-    where
-      by : (b : Bool) → pool ≡ cond (b && false) (with_cells pool e (cells_with_row part pos values (cells_of pool e))) pool
-      by true = refl
-      by false = refl
-
-  -- one that does puts the row into its cell
+  -- a part that takes rows into a box of its own puts the row into its cell
   pub put-there : (owns : Bool) (after : PoolValue) → owns ≡ true → admits q part pos (by_column values) ≡ true
       → after ≡ with_cells pool e (cells_with_row part pos values (cells_of pool e)) → after ≡ with_row owns q part pos values e pool
   put-there owns after o admitted is =
       is ∙ sym (ap (λ b. cond b (with_cells pool e (cells_with_row part pos values (cells_of pool e))) pool) ((λ i. admitted i && o i)))
 
--- what is known of a part's own cell is known before the row, of a cell that no part changed since
-pub known-of : (known owns same : Bool) → (known && (owns || same)) ≡ true → (known ≡ true) × ((owns ≡ true) ⊎ (same ≡ true))
-known-of true true same h = (refl, inl refl)
-known-of true false true h = (refl, inr refl)
-known-of true false false h = absurd cc
-known-of false owns same h = absurd cc
-
-pub asked-of : (known owns same : Bool) → (owns || (known && (owns || same))) ≡ true → (owns ≡ true) ⊎ ((known ≡ true) × (same ≡ true))
-asked-of known true same h = inl refl
-asked-of true false true h = inr (refl, refl)
-asked-of true false false h = absurd cc
-asked-of false false same h = absurd cc
-
 module _ (q : QueryValue) (plan : List PartPlan) (e : Extent) (pos : ℕ) (here : pos < length q.from) (values : List ℤ) (before : PoolValue) (ready : AreReady q plan before e) where
   module _ (n : ℕ) (part : PartPlan) (at_n : slice_get plan n ≡ Some part) (now : PoolValue) (taken : HasTaken q plan e (arrives q pos values) n before now)
-      (owns same : Bool) (owner : owns ≡ takes_rows q plan pos n part) (unchanged : same ≡ true → now ≡ before) where
-    -- its cells are as before the row
-    same-cells : (owns ≡ true) ⊎ (same ≡ true) → (place i : ℕ) → place < length q.from → i < (stream_at part place).size
+      (owns : Bool) (owner : owns ≡ takes_rows q plan pos n part) where
+    -- the cells of a part that takes rows into a box of its own are as before the row
+    own-same : owns ≡ true → (place i : ℕ) → place < length q.from → i < (stream_at part place).size
         → read_from (cells_of now e) part place i ≡ read_from (cells_of before e) part place i
-    same-cells (inl o) place i l k = same_owned q plan e pos here values before ready n part at_n now taken (first-has q plan part pos n (sym owner ∙ o)) place i l k
-    same-cells (inr s) place i l k = ap (λ (p : PoolValue). read_from (cells_of p e) part place i) (unchanged s)
+    own-same o place i l k = same_owned q plan e pos here values before ready n part at_n now taken (first-has q plan part pos n (sym owner ∙ o)) place i l k
 
     contained : Contains plan part
     contained = Contains-from_has plan part (get_has plan n part at_n)
@@ -87,39 +65,32 @@ module _ (q : QueryValue) (plan : List PartPlan) (e : Extent) (pos : ℕ) (here 
     count place l = (let c = (part_plan q plan ready.limits ready.plan n part at_n).count in omega (arith, c, l))
 
     -- they can count one row more
-    pub can-count : (known : Bool) → (owns || (known && (owns || same))) ≡ true → CanCount part (read_from (cells_of now e))
-    can-count known h place i l k =
-        subst HasRoom (sym (same-cells (either (asked-of known owns same h)) place i (count place l) k)) (ready.room part contained place i l k)
-      where
-        either : (owns ≡ true) ⊎ ((known ≡ true) × (same ≡ true)) → (owns ≡ true) ⊎ (same ≡ true)
-        either (inl o) = inl o
-        either (inr s) = inr s.1
+    pub can-count : owns ≡ true → CanCount part (read_from (cells_of now e))
+    can-count o place i l k = subst HasRoom (sym (own-same o place i (count place l) k)) (ready.room part contained place i l k)
 
-    -- a query with one of these has several streams
-    pub several-streams : (known : Bool) → (known ≡ true → 1 < length q.from) → (owns || (known && (owns || same))) ≡ true → 1 < length q.from
-    several-streams known more h = elim (asked-of known owns same h) [
-      | inl o ↦ has-several q plan part pos n (sym owner ∙ o)
-      | inr s ↦ more s.0
-    ]
+    module _ (same : Bool) (unchanged : same ≡ true → now ≡ before) where
+      -- so are all as long as no cell changed
+      same-cells : (owns ≡ true) ⊎ (same ≡ true) → (place i : ℕ) → place < length q.from → i < (stream_at part place).size
+          → read_from (cells_of now e) part place i ≡ read_from (cells_of before e) part place i
+      same-cells (inl o) place i l k = own-same o place i l k
+      same-cells (inr s) place i l k = ap (λ (p : PoolValue). read_from (cells_of p e) part place i) (unchanged s)
 
-    -- what it answers to a row that leaves its own cell as it is has an entry
-    pub old-now : (known : Bool) (start table : TableValue) → (known ≡ true → AnswersNothingNew q plan (read_from (cells_of before e)) start.entries)
-        → table ≡ with_entries start (with_all q.distinct (all_found q (take n plan) (read_from (cells_of before e)) (arrives q pos values)) start.entries)
-        → admits q part pos (by_column values) ≡ true → (known && (owns || same)) ≡ true → LeavesCell part (read_from (cells_of now e)) pos values
-        → AreOld q.distinct (found_in q part (read_from (cells_of now e)) (arrives q pos values)) table.entries
-    old-now known start table nothing is admitted h leaves =
-        let k = known-of known owns same h in
-        let tells = nothing k.0 in
-        let own = part_plan q plan ready.limits ready.plan n part at_n in
-        let inside = place_inside q part ready.limits own pos here values tells.several admitted in
-        let cell : read_from (cells_of now e) part pos (own_place part pos values) ≡ read_from (cells_of before e) part pos (own_place part pos values)
-        = same-cells k.1 pos (own_place part pos values) here inside in
-        let left : LeavesCell part (read_from (cells_of before e)) pos values
-        = ap (λ (c : Cell). merged (stream_at part pos).kind c (own_content part pos values)) (sym cell) ∙ leaves ∙ cell in
-        record {
-          once = tells.once;
-          old = λ f c.
-              has-later f.tuple q.distinct _ start table tells.once is
-              (tells.old part contained pos values here admitted left f
-              (subst (λ fs. Contains fs f) (found_now q plan e pos here values before ready n part at_n now taken) c));
-        }
+      -- what it answers to a row that leaves its own cell as it is has an entry
+      pub old-now : (start table : TableValue) → AnswersNothingNew q plan (read_from (cells_of before e)) start.entries
+          → table ≡ with_entries start (with_all q.distinct (all_found q (take n plan) (read_from (cells_of before e)) (arrives q pos values)) start.entries)
+          → admits q part pos (by_column values) ≡ true → (owns ≡ true) ⊎ (same ≡ true) → LeavesCell part (read_from (cells_of now e)) pos values
+          → AreOld q.distinct (found_in q part (read_from (cells_of now e)) (arrives q pos values)) table.entries
+      old-now start table tells is admitted either leaves =
+          let own = part_plan q plan ready.limits ready.plan n part at_n in
+          let inside = place_inside q part ready.limits own pos here values tells.several admitted in
+          let cell : read_from (cells_of now e) part pos (own_place part pos values) ≡ read_from (cells_of before e) part pos (own_place part pos values)
+          = same-cells either pos (own_place part pos values) here inside in
+          let left : LeavesCell part (read_from (cells_of before e)) pos values
+          = ap (λ (c : Cell). merged (stream_at part pos).kind c (own_content part pos values)) (sym cell) ∙ leaves ∙ cell in
+          record {
+            once = tells.once;
+            old = λ f c.
+                has-later f.tuple q.distinct _ start table tells.once is
+                (tells.old part contained pos values here admitted left f
+                (subst (λ fs. Contains fs f) (found_now q plan e pos here values before ready n part at_n now taken) c));
+          }

@@ -63,7 +63,7 @@ plain_entries q p prefilter f filters is read r es =
     ∙ one_entry q.distinct (filter_tuple q r) (map (by_column r.values) f.selected.items) (plain_filter_meets prefilter f r) es is.plain (answers q p prefilter f filters is r)
 
 -- a filter has no cells
-filter_taken : (q : QueryValue) (p : Plan) (e : Extent) (r : Arrival) (pool : PoolValue) → p ≡ plan.Filter → IsPlanReady q p pool e → HasTaken q (parts_of p) e r (length (parts_of p)) pool pool
+pub filter_taken : (q : QueryValue) (p : Plan) (e : Extent) (r : Arrival) (pool : PoolValue) → p ≡ plan.Filter → IsPlanReady q p pool e → HasTaken q (parts_of p) e r (length (parts_of p)) pool pool
 filter_taken q plan.Filter e r pool is ready = taken_start q [] e r pool ready
 filter_taken q (plan.Parts parts numbers) e r pool is ready = absurd cc
 

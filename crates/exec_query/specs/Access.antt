@@ -3,8 +3,7 @@ use Rattle.std.specs.Prelude.{Bool, true, false, ⊤}
 use Rattle.sem_query.specs.declared.plan.Plan.{Plan}
 use Rattle.sem_query.specs.Query.{QueryValue}
 use Rattle.sem_query.specs.Numbers.{parts_of}
-use Rattle.exec_point_lookup.specs.declared.direct.DirectLookup.{DirectLookup}
-use Rattle.exec_point_lookup.specs.Direct.{AreDirect, IsListedIn}
+use Rattle.exec_point_lookup.specs.Direct.{AreDirect}
 use Rattle.exec_filter.specs.declared.prefilter.Prefilter.{Prefilter}
 use Rattle.exec_filter.specs.PlainFilter.{IsPlainFilter}
 use Rattle.exec_query.specs.declared.access.Access.{Access}
@@ -22,9 +21,3 @@ abbrev pub IsAccess : QueryValue → Plan → Prefilter → Access → Type 0
 IsAccess q p prefilter (access.Filter f) = IsPlainFilter q p prefilter f
 IsAccess q p prefilter (access.PointLookup lookups) = AreDirect q (parts_of p) lookups
 IsAccess q p prefilter access.Plan = ⊤
-
--- it lists this look-up
-abbrev pub IsLookupOf : Access → DirectLookup → Type 0
-IsLookupOf (access.Filter f) d = ⊥
-IsLookupOf (access.PointLookup lookups) d = IsListedIn lookups d
-IsLookupOf access.Plan d = ⊥

@@ -1,8 +1,8 @@
 //! How a query takes its rows, which is chosen once.
-ghost use Rattle.std.specs.Prelude.{◌≡◌, IfSome};
+ghost use Rattle.std.specs.Prelude.{◌≡◌};
 ghost use Rattle.sem_query.specs.Numbers.{parts_of};
 ghost use Rattle.exec_part_index.specs.Prepared.{IsPreparedPlan};
-ghost use Rattle.exec_query.specs.Access.{IsAccess, IsLookupOf, is_filter};
+ghost use Rattle.exec_query.specs.Access.{IsAccess, is_filter};
 
 use exec_filter::{PlainFilter, Prefilter, plain_filter_of};
 use exec_part_index::PreparedPlan;
@@ -28,17 +28,6 @@ impl Access {
         match self {
             Access::Filter(_) => true,
             Access::PointLookup(_) | Access::Plan => false,
-        }
-    }
-
-    /// Returns how a row of a stream meets its two cells, where that is listed.
-    #[inline(always)]
-    pub fn lookup_of(&self, stream: u8) -> Option<&DirectLookup>
-        ensures { IfSome result (λ d. IsLookupOf self.now d.now × (d.now.stream ≡ stream)) }
-    {
-        match self {
-            Access::PointLookup(lookups) => lookups.of_stream(stream),
-            Access::Filter(_) | Access::Plan => None,
         }
     }
 }

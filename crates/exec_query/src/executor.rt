@@ -8,28 +8,27 @@ ghost use Rattle.sem_query.specs.Sharing.{sizes_in};
 ghost use Rattle.sem_query.specs.Bases.{Base, first_base};
 ghost use Rattle.exec_pool.specs.Extents.{PoolValue, cells_of, with_cells, IsLive, IsGivenBack};
 ghost use Rattle.exec_answer_lines.specs.Gathering.{Gathers};
-ghost use Rattle.exec_answer_table.specs.Entries.{with_entries, waiting_entries, settled};
+ghost use Rattle.exec_answer_table.specs.Entries.{with_entries, settled};
 ghost use Rattle.exec_saturation.specs.declared.saturation.Saturation.TheVariants as saturation;
 ghost use Rattle.exec_saturation.specs.Known.{none_yet};
 ghost use Rattle.exec_query.specs.Executor.{IsAccepted, IsSound, arrival, cells_in, cleared, list_in, most_answers, parts_in, tuples_in, waiting_in, with_given, with_saturation};
 ghost use Rattle.exec_query.specs.Standing.{StandsFor, AreKept, KeepsWithin, IsReady};
 ghost use Rattle.exec_query.specs.Bases.{StandsFrom};
-ghost use Rattle.exec_query.specs.Row.{HasLooked, KeepsToReads, KeepsToWork, TakesRow};
+ghost use Rattle.exec_query.specs.Row.{HasLooked, KeepsToWork, TakesRow};
 ghost use Rattle.exec_query.specs.Loading.{loaded_given, loaded_cell, loaded_tuple, Loads};
-ghost use Rattle.exec_filter.specs.Prefilter.{IsRefused};
 ghost use Rattle.exec_query.specs.Passing.{IsBoxFor};
 ghost use Rattle.exec_query.specs.Written.{answer_lines};
 
 use crate::access::{Access, access_of};
-use crate::filter::plain_filter_row;
-use crate::join::Scratch;
-use crate::output::put_waiting;
-use crate::route::{PlanAt, apply_row};
+use crate::filter::{filter_row, plain_filter_row};
+use crate::output::gather_listed;
+use crate::part::Scratch;
+use crate::route::{apply_along, place_of};
 use crate::two_cells::{meet_cells, take_up_anew};
 use exec_answer_lines::AnswerLines;
 use exec_answer_table::Answers;
 use exec_filter::{Prefilter, prefilter_of};
-use exec_part_index::{PreparedPlan, prepare_all};
+use exec_part_index::{Led, PreparedPlan, prepare_all};
 use exec_pool::{Extent, Pool, Steps};
 use exec_query_index::QueryBox;
 use exec_ranges::is_empty;
@@ -113,13 +112,6 @@ pub fn clear(distinct: bool, table: &mut Answers)
     clear_listed(distinct, table);
 }
 
-// Whether an answer waits in a table.
-fn waits_in(table: &Answers) -> bool
-    ensures { result ≡ false → waiting_entries table.now.entries ≡ [] }
-{
-    table.waiting_len() != 0
-}
-
 impl Executor {
     /// Returns the executor of an accepted query, with shared cells or without, to which no row was given. An error says that memory was not
     /// found, and gives the extent back; no other call takes any.
@@ -161,17 +153,6 @@ impl Executor {
             }),
             Err(error) => Err((extent, error)),
         }
-    }
-
-    // Whether a row is refused, and nothing waits that would have to be given up: it is but counted.
-    fn is_skipped(&self, stream: u8, row: &Row) -> bool
-        ensures refused { result ≡ true → IsRefused self.now.query self.now.plan (arrival stream row.now.items) }
-        ensures none { result ≡ true → waiting_entries self.now.table.entries ≡ [] }
-    {
-        if self.prefilter.passes(stream, row) {
-            return false;
-        }
-        !waits_in(&self.table)
     }
 
     /// Takes a row of any stream of at most 2^40 rows in all, whose values lie in the domains of the query where it names the stream.
@@ -225,10 +206,11 @@ impl Executor {
         ensures none { result ≡ false → waiting_in self.new ≡ [] }
         ensures steps { KeepsToWork self.old (arrival stream row.now.items) steps.old steps.new }
     {
-        let Some(direct) = self.access.lookup_of(stream) else {
+        let (Access::PointLookup(lookups), Plan::Parts { parts, .. }) = (&self.access, &self.plan)
+        else {
             return self.apply_by_plan(is_within, pool, stream, row, steps);
         };
-        let Plan::Parts { parts, .. } = &self.plan else {
+        let Some(direct) = lookups.of_stream(stream) else {
             return self.apply_by_plan(is_within, pool, stream, row, steps);
         };
         self.given += 1;
@@ -261,43 +243,41 @@ impl Executor {
         ensures none { result ≡ false → waiting_in self.new ≡ [] }
         ensures steps { KeepsToWork self.old (arrival stream row.now.items) steps.old steps.new }
     {
-        if !is_within && self.is_skipped(stream, row) {
+        // A row that is refused while nothing waits is but counted: there is nothing to be given up.
+        if !is_within && !self.prefilter.passes(stream, row) && self.table.waiting_len() == 0 {
             self.given += 1;
             return false;
         }
-        self.look_where_loaded(pool, stream, steps);
+        if let Saturation::Before(cursor) = self.saturation {
+            self.look_on(pool, stream, cursor, steps);
+        }
         self.given += 1;
         clear(self.query.distinct(), &mut self.table);
-        let known = self.saturation.spares(&self.query);
-        let query = PlanAt {
-            q: &self.query,
-            plan: &self.plan,
-            prepared: &self.prepared,
-            extent: &self.extent,
-            known,
-        };
-        apply_row(
-            pool,
-            &query,
-            stream,
-            row,
-            &mut self.scratch,
-            &mut self.table,
-            steps,
-        );
-        waits_in(&self.table)
-    }
-
-    // Looks at cells as `look_on` does, where it is not known whether all are saturated.
-    #[inline(always)]
-    fn look_where_loaded<L: Ledger>(&mut self, pool: &Pool, stream: u8, steps: &mut Steps<L>)
-        requires ready { IsReady self.old pool.now }
-        ensures { HasLooked self.old pool.now stream self.new steps.old steps.new }
-    {
-        match self.saturation {
-            Saturation::Before(cursor) => self.look_on(pool, stream, cursor, steps),
-            _ => {}
+        let (q, prepared, table) = (&self.query, &self.prepared, &mut self.table);
+        match &self.plan {
+            Plan::Filter => filter_row(q, stream, row, &mut self.scratch.tuple, table),
+            Plan::Parts { parts, .. } => match place_of(q.from(), stream) {
+                Some(pos) => {
+                    let part_index = prepared.part_index(q, parts, pos);
+                    let hit = part_index.first(q, parts, pos, row);
+                    let led = Led {
+                        q,
+                        parts,
+                        pos,
+                        row,
+                        code: hit.code,
+                        part_index,
+                        each: part_index.each_owns(q, parts, pos),
+                        prepared,
+                        extent: &self.extent,
+                        known: self.saturation.spares(q),
+                    };
+                    apply_along(pool, &led, hit.first, &mut self.scratch, table, steps)
+                }
+                None => {}
+            },
         }
+        self.table.waiting_len() != 0
     }
 
     // Looks at some cells after others were loaded, whether they are saturated: as many as the announced work leaves room for beside a row of
@@ -342,7 +322,17 @@ impl Executor {
         ensures history { (pool : PoolValue) (history : List Arrival) → StandsFor self.old pool history → StandsFor self.new pool history }
         ensures bases { (pool : PoolValue) (base : Base) (history : List Arrival) → StandsFrom self.old pool base history → StandsFrom self.new pool base history }
     {
-        let written = put_waiting(&self.table, is_alone, name, lines, out);
+        let written = match self.table.lone_entry() {
+            Some(found) => {
+                let (tuple, times) = found;
+                if is_alone {
+                    lines.write(name, tuple, times, out)
+                } else {
+                    lines.gather(name, tuple, times, out)
+                }
+            }
+            None => gather_listed(&self.table, name, lines, out),
+        };
         self.give_up();
         written
     }

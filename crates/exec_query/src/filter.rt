@@ -1,7 +1,6 @@
 //! What a filter answers to a row, by that row alone.
 ghost use Rattle.std.specs.Prelude.{◌≡◌, ◌&&◌, ◌==◌, [], ◌∷◌, ◌<◌, length, map, slice_index_or, if◌then◌else◌};
-ghost use Rattle.std.specs.List.{list_all};
-ghost use Rattle.sem_query.specs.Assignment.{meets, holds};
+ghost use Rattle.sem_query.specs.Assignment.{holds};
 ghost use Rattle.sem_query.specs.Meaning.{assignment_of, by_column};
 ghost use Rattle.exec_filter.specs.PlainFilter.{plain_filter_meets};
 ghost use Rattle.exec_answer_table.specs.Entries.{entry_of, with_entries};
@@ -10,7 +9,7 @@ ghost use Rattle.exec_query.specs.FoundTable.{with_all, HaveRoom};
 ghost use Rattle.exec_query.specs.CellSteps.{own_found};
 
 use crate::executor::clear;
-use crate::join::record_found;
+use crate::part::record_found;
 use exec_answer_table::Answers;
 use exec_filter::{PlainFilter, Prefilter, filter_all_meet, filter_project, stream_of};
 use sem_query::{Query, Row, Tuple};
@@ -20,31 +19,6 @@ fn is_answered(q: &Query, stream: u8, row: &Row) -> bool
     ensures { result ≡ ((stream == slice_index_or q.now.from 0 0) && holds q.now (assignment_of (row.now.items ∷ []))) }
 {
     stream == stream_of(q.from(), 0) && filter_all_meet(row.as_slice(), q.atoms())
-}
-
-// Whether a row meets what a filter asks of rows that pass. Most often nothing is asked, and this is seen at less cost than asking has.
-#[inline(always)]
-fn meets_unimplied(plain_filter: &PlainFilter, row: &[i64]) -> bool
-    ensures { result ≡ list_all (meets (assignment_of (row.now ∷ []))) plain_filter.now.unimplied.items }
-{
-    if plain_filter.unimplied.is_empty() {
-        return true;
-    }
-    filter_all_meet(row, plain_filter.unimplied.as_slice())
-}
-
-// Whether a row is answered by a filter that asks this of rows that pass.
-#[inline(always)]
-fn plain_filter_meets(
-    prefilter: &Prefilter,
-    plain_filter: &PlainFilter,
-    stream: u8,
-    row: &Row,
-) -> bool
-    requires { prefilter.now.others.items ≡ [] }
-    ensures { result ≡ plain_filter_meets prefilter.now plain_filter.now (arrival stream row.now.items) }
-{
-    prefilter.passes_alone(stream, row) && meets_unimplied(plain_filter, row.as_slice())
 }
 
 // Leaves in a table what a filter without DISTINCT answers to a row, and returns whether it answers it.
@@ -62,12 +36,14 @@ fn put_answer(
     ensures meets { result ≡ plain_filter_meets prefilter.now plain_filter.now (arrival stream row.now.items) }
     ensures table { table.new ≡ with_entries table.old (if result then entry_of (map (by_column row.now.items) plain_filter.now.selected.items) 1 ∷ [] else []) }
 {
-    if !plain_filter_meets(prefilter, plain_filter, stream, row) {
-        clear(false, table);
-        return false;
+    // Most often nothing is asked of rows that pass, and this is seen at less cost than asking has.
+    let (asked, values) = (plain_filter.unimplied.as_slice(), row.as_slice());
+    if prefilter.passes_alone(stream, row) && (asked.is_empty() || filter_all_meet(values, asked)) {
+        table.set_only(plain_filter.selected.as_slice(), values);
+        return true;
     }
-    table.set_only(plain_filter.selected.as_slice(), row.as_slice());
-    true
+    clear(false, table);
+    false
 }
 
 // The same. It is not inlined, so that rows of joins pay nothing for it.

@@ -1,5 +1,5 @@
 //! What a row does in a query of one part where one column tells the two cells that it meets.
-ghost use Rattle.std.specs.Prelude.{◌≡◌, [], ◌<◌, ◌≤◌, ◌+◌, ◌*◌, length, map, true, false, Some};
+ghost use Rattle.std.specs.Prelude.{◌≡◌, ◌<◌, ◌≤◌, ◌+◌, length, map, true};
 ghost use Rattle.sem_query.specs.declared.cell.Cell.TheVariants as cells;
 ghost use Rattle.sem_query.specs.Meaning.{by_column};
 ghost use Rattle.sem_query.specs.Combinations.{read_from};
@@ -15,7 +15,7 @@ ghost use Rattle.exec_query.specs.TwoCells.{told_by};
 ghost use Rattle.exec_point_lookup.specs.Direct.{IsDirect};
 
 use crate::executor::clear;
-use crate::join::{MOST_TIMES, record_found};
+use crate::part::{MOST_TIMES, record_found};
 use exec_answer_table::Answers;
 use exec_point_lookup::{DirectLookup, offset_in, put_selected};
 use exec_pool::{Extent, Pool, Steps};

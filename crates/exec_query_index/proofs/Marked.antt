@@ -14,7 +14,7 @@ use Rattle.exec_query_index.proofs.Ordered.{bucket_up, least_below, greatest_abo
 both : (a b k : ℕ) → bit_at a k ≡ 1 → bit_at b k ≡ 1 → bit_at (bit_and a b) k ≡ 1
 both a b k x y = let m = bit_at_and a b k in omega (arith, m, x, y)
 
-first : (a b k : ℕ) → bit_at (bit_and a b) k ≡ 1 → bit_at a k ≡ 1
+pub first : (a b k : ℕ) → bit_at (bit_and a b) k ≡ 1 → bit_at a k ≡ 1
 first a b k h = let m = bit_at_and a b k in let x = bit_at-lt a k in let y = bit_at-lt b k in omega (arith, m, x, y, h)
 
 -- in the word of its bucket

@@ -81,20 +81,6 @@ fn put_column(columns: &mut Vec<Column>, boxes: &[Option<QueryBox>], column: usi
     }
 }
 
-// What is left of a word by the only column.
-#[inline(always)]
-fn narrowed_by_one(word: u64, row: &[i64], columns: &[Column]) -> Concerns
-    requires { length columns.now ≡ 1 }
-    ensures value { result.word ≡ narrowed word row.now columns.now }
-    ensures held { (k : ℕ) → AreMarked k row.now columns.now → bit_at word k ≡ 1 → bit_at result.word k ≡ 1 }
-{
-    let (own, all) = columns[0].of(row);
-    Concerns {
-        word: word & own,
-        within: all,
-    }
-}
-
 // What is left of a word by all columns. Where nothing is left, the other columns are not looked at.
 #[inline(always)]
 fn narrowed(word: u64, row: &[i64], columns: &[Column]) -> Concerns
@@ -112,18 +98,6 @@ fn narrowed(word: u64, row: &[i64], columns: &[Column]) -> Concerns
         }
     }
     Concerns { word: left, within }
-}
-
-// The same. Most often one column is bounded, and needs no loop.
-#[inline(always)]
-fn left_by(word: u64, row: &[i64], columns: &[Column]) -> Concerns
-    ensures value { result.word ≡ narrowed word row.now columns.now }
-    ensures held { (k : ℕ) → AreMarked k row.now columns.now → bit_at word k ≡ 1 → bit_at result.word k ≡ 1 }
-{
-    if columns.len() == 1 {
-        return narrowed_by_one(word, row, columns);
-    }
-    narrowed(word, row, columns)
 }
 
 impl Candidates {
@@ -156,6 +130,15 @@ impl Candidates {
         ensures held { (boxes : List (Option QueryBox)) → AreFor boxes self.now → (k : ℕ) (box : QueryBox) → slice_get boxes k ≡ Some (Some box) → IsInside box row.now → bit_at result.word k ≡ 1 }
         ensures only { (boxes : List (Option QueryBox)) → AreFor boxes self.now → (k : ℕ) → bit_at result.word k ≡ 1 → k < length boxes }
     {
-        left_by(self.named, row, self.columns.as_slice())
+        let columns = self.columns.as_slice();
+        if columns.len() == 1 {
+            // Most often one column is bounded, and needs no loop.
+            let (own, within) = columns[0].of(row);
+            return Concerns {
+                word: self.named & own,
+                within,
+            };
+        }
+        narrowed(self.named, row, columns)
     }
 }

@@ -181,13 +181,6 @@ fn within_of(boxes: &[Option<QueryBox>], column: usize, grid: &Grid) -> [u64; 25
     words
 }
 
-// The value of a column in a row, 0 where the row has none.
-fn value_of(row: &[i64], column: u8) -> i64
-    ensures { result ≡ slice_index_or row.now column (pos 0) }
-{
-    row.get(usize::from(column)).copied().unwrap_or(0)
-}
-
 impl Column {
     /// Returns the column of these boxes.
     pub fn over(boxes: &[Option<QueryBox>], column: usize) -> Column
@@ -214,13 +207,13 @@ impl Column {
         self.words.iter().filter(|word| **word == 0).count()
     }
 
-    /// Returns the queries that the bucket of a row's value is marked with, and those that hold all of it.
+    /// Returns the queries that the bucket of a row's value, 0 where the row has none, is marked with, and those that hold all of it.
     #[inline(always)]
     pub fn of(&self, row: &[i64]) -> (u64, u64)
         ensures value { result.0 ≡ word_at self.now row.now }
         ensures machine { IsMachine (slice_index_or row.now self.now.column (pos 0)) }
     {
-        let x = value_of(row, self.column);
+        let x = row.get(usize::from(self.column)).copied().unwrap_or(0);
         let bucket = self.grid.bucket(x);
         (self.words[bucket], self.within[bucket])
     }

@@ -59,19 +59,8 @@ fn remainder(n: u32, by: u32) -> u32
     n % by
 }
 
-// Puts the least value of each dim into `values`.
-fn least_into(dims: &[Dim], values: &mut Values)
-    requires { length dims.now ≤ 8 }
-    ensures { values.new.items ≡ map (λ d. d.lo) dims.now }
-{
-    values.clear();
-    'dims: for dim in dims {
-        values.push(dim.lo);
-    }
-}
-
-// Puts the combination of values at a place, where there are so many, into `values`.
-fn values_among(dims: &[Dim], combinations: u32, place: u32, values: &mut Values)
+/// Puts the combination of values at a place, where there are so many, into `values`.
+pub fn values_into(dims: &[Dim], combinations: u32, place: u32, values: &mut Values)
     requires few { length dims.now ≤ 8 }
     requires sound { AreNumbered dims.now }
     requires size { combinations ≡ box_size dims.now }
@@ -79,6 +68,12 @@ fn values_among(dims: &[Dim], combinations: u32, place: u32, values: &mut Values
     ensures { values.new.items ≡ values_at dims.now place }
 {
     values.clear();
+    if combinations == 1 {
+        'least: for dim in dims {
+            values.push(dim.lo);
+        }
+        return;
+    }
     let mut rest = place;
     let mut size = combinations;
     'values: for dim in dims {
@@ -88,21 +83,6 @@ fn values_among(dims: &[Dim], combinations: u32, place: u32, values: &mut Values
         rest = remainder(rest, stride);
         size = stride;
     }
-}
-
-/// Puts the combination of values at a place, where there are so many, into `values`.
-pub fn values_into(dims: &[Dim], combinations: u32, place: u32, values: &mut Values)
-    requires few { length dims.now ≤ 8 }
-    requires sound { AreNumbered dims.now }
-    requires size { combinations ≡ box_size dims.now }
-    requires below { place < combinations }
-    ensures { values.new.items ≡ values_at dims.now place }
-{
-    if combinations == 1 {
-        least_into(dims, values);
-        return;
-    }
-    values_among(dims, combinations, place, values);
 }
 
 /// Returns the combination of values at a place, where there are so many.

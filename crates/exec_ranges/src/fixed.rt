@@ -17,7 +17,7 @@ use crate::lines::offset_of;
 use crate::lists::Dims;
 use crate::part::RowAt;
 use crate::values::value_in;
-use exec_synopsis::{KeyColumn, LookupKey, binding_column, is_scan, stream_at};
+use exec_synopsis::{binding_column, is_scan, may_look_up, stream_at};
 use sem_query::{Dim, value_at};
 
 // The dim with one value alone, if that is in its range.
@@ -37,23 +37,7 @@ fn pinned(dim: Dim, value: i64) -> Option<Dim>
     })
 }
 
-// The dim with the one value that a known column leaves it, if one does.
-fn fixed_dim(at: &RowAt<'_>, known: &[Binding], dim: Dim) -> Option<Dim>
-    requires { IsPrepared at.now.pairs.now at.now.part.now at.now.prepared.now }
-    ensures { IfSome result (λ fixed. IsFixed dim (narrow at.now.arriving (length known.now) at.now.part.now.equal.items at.now.part.now.less.items (value_in at.now.pairs.now at.now.part.now at.now.arriving at.now.row.now known.now) dim) fixed) }
-{
-    let Some(column) = binding_column(at.arriving, known.len(), dim.attr, at.part.equal.as_slice())
-    else {
-        return None;
-    };
-    let value = value_in(at, known, column);
-    let Some(fixed) = pinned(dim, value) else {
-        return None;
-    };
-    Some(fixed)
-}
-
-/// Puts into `dims` the dims of the next stream, where known columns leave each of them one value, and tells the number of
+/// Puts into `dims` the dims of the next stream, where it is listed that known columns leave each of them one value, and tells the number of
 /// the cell for these values.
 pub fn fixed_dims(at: &RowAt<'_>, known: &[Binding], dims: &mut Dims) -> Option<u32>
     requires here { length known.now < length at.now.part.now.streams.items }
@@ -62,55 +46,24 @@ pub fn fixed_dims(at: &RowAt<'_>, known: &[Binding], dims: &mut Dims) -> Option<
     requires laid { IsLaidOut (stream_at at.now.part.now (length known.now)) (2 ^ 32) }
     ensures { IfSome result (λ first. AreFixed at.now.part.now (length known.now) (narrowed_dims at.now.pairs.now at.now.part.now at.now.arriving at.now.row.now known.now) dims.new.items first) }
 {
+    if !may_look_up(at.prepared.access(at.arriving, known.len())) {
+        return None;
+    }
     let plan = stream_at(at.part, known.len());
+    let links = at.part.equal.as_slice();
     let mut place: u32 = 0;
     dims.clear();
     'dims: for dim in plan.dims.as_slice() {
-        let Some(fixed) = fixed_dim(at, known, *dim) else {
+        let Some(column) = binding_column(at.arriving, known.len(), dim.attr, links) else {
+            return None;
+        };
+        let Some(fixed) = pinned(*dim, value_in(at, known, column)) else {
             return None;
         };
         place = place * dim_size(*dim) + offset_of(*dim, fixed);
         dims.push(fixed);
     }
     Some(plan.base + place)
-}
-
-// The dim with the one value that the arriving row's own column leaves it, if that is in its range.
-fn pinned_dim(at: &RowAt<'_>, known: &[Binding], key_column: KeyColumn) -> Option<Dim>
-    requires { IsKeyColumn at.now.part.now at.now.arriving (length known.now) key_column }
-    ensures { IfSome result (λ fixed. IsFixed key_column.dim (narrow at.now.arriving (length known.now) at.now.part.now.equal.items at.now.part.now.less.items (value_in at.now.pairs.now at.now.part.now at.now.arriving at.now.row.now known.now) key_column.dim) fixed) }
-{
-    // Named for the proof alone: the contract speaks of it.
-    let _known = known;
-    let Some(fixed) = pinned(key_column.dim, value_at(at.row, key_column.column.column)) else {
-        return None;
-    };
-    Some(fixed)
-}
-
-// The same as the search, where the columns are listed.
-fn listed_dims(
-    at: &RowAt<'_>,
-    known: &[Binding],
-    listed: &LookupKey,
-    dims: &mut Dims,
-) -> Option<u32>
-    requires other { length known.now ≢ at.now.arriving }
-    requires place { listed.now.place ≡ length known.now }
-    requires pinned { IsPinned at.now.part.now at.now.arriving listed.now }
-    requires laid { IsLaidOut (stream_at at.now.part.now (length known.now)) (2 ^ 32) }
-    ensures { IfSome result (λ first. AreFixed at.now.part.now (length known.now) (narrowed_dims at.now.pairs.now at.now.part.now at.now.arriving at.now.row.now known.now) dims.new.items first) }
-{
-    let mut place: u32 = 0;
-    dims.clear();
-    'key_columns: for key_column in listed.key_columns.as_slice() {
-        let Some(fixed) = pinned_dim(at, known, *key_column) else {
-            return None;
-        };
-        place = place * dim_size(key_column.dim) + offset_of(key_column.dim, fixed);
-        dims.push(fixed);
-    }
-    Some(listed.first + place)
 }
 
 /// Puts into `dims` the dims of the next stream, where it is listed that the arriving row's own columns leave each of them
@@ -121,10 +74,20 @@ pub fn pinned_dims(at: &RowAt<'_>, known: &[Binding], dims: &mut Dims) -> Option
     requires laid { IsLaidOut (stream_at at.now.part.now (length known.now)) (2 ^ 32) }
     ensures { IfSome result (λ first. AreFixed at.now.part.now (length known.now) (narrowed_dims at.now.pairs.now at.now.part.now at.now.arriving at.now.row.now known.now) dims.new.items first) }
 {
-    match at.prepared.pinned(at.arriving, known.len()) {
-        Some(listed) => listed_dims(at, known, listed, dims),
-        None => None,
+    let Some(listed) = at.prepared.pinned(at.arriving, known.len()) else {
+        return None;
+    };
+    let mut place: u32 = 0;
+    dims.clear();
+    'key_columns: for key_column in listed.key_columns.as_slice() {
+        let value = value_at(at.row, key_column.column.column);
+        let Some(fixed) = pinned(key_column.dim, value) else {
+            return None;
+        };
+        place = place * dim_size(key_column.dim) + offset_of(key_column.dim, fixed);
+        dims.push(fixed);
     }
+    Some(listed.first + place)
 }
 
 /// Puts into `dims` the dims of the next stream, where it is listed that all their values are left and there is one

@@ -7,8 +7,8 @@ ghost use Rattle.std.specs.declared.option.Option.TheVariants.{Some};
 
 use crate::binding::Binding;
 use crate::part::RowAt;
-use exec_synopsis::{Prepared, class_of};
-use sem_query::{Attr, Cell, Pair, PartPlan, value_at};
+use exec_synopsis::class_of;
+use sem_query::{Attr, Cell, value_at};
 
 // The extreme that a cell keeps, and 0 where it keeps none.
 fn extreme_of(cell: Cell) -> i64
@@ -42,21 +42,6 @@ fn value_or(values: &[i64], otherwise: i64, place: Option<u8>) -> i64
     }
 }
 
-// The value of a column of the cell's own stream.
-fn chosen_value(
-    pairs: &[Pair],
-    part: &PartPlan,
-    prepared: &Prepared,
-    a: Attr,
-    chosen: &Binding,
-) -> i64
-    requires { IsPrepared pairs.now part.now prepared.now }
-    ensures { result ≡ chosen_value pairs.now part.now a (Some chosen.now) }
-{
-    let place = class_of(pairs, part, prepared, a);
-    value_or(chosen.values.as_slice(), extreme_of(chosen.cell), place)
-}
-
 /// Returns the value of a column, where cells were chosen at the first places of FROM.
 #[tactic(auto, unfolding(crate::specs::Values::value_in))]
 pub fn value_in(at: &RowAt<'_>, known: &[Binding], a: Attr) -> i64
@@ -66,8 +51,9 @@ pub fn value_in(at: &RowAt<'_>, known: &[Binding], a: Attr) -> i64
     if a.stream == at.arriving {
         return value_at(at.row, a.column);
     }
-    match known.get(usize::from(a.stream)) {
-        Some(chosen) => chosen_value(at.pairs, at.part, at.prepared, a, chosen),
-        None => 0,
-    }
+    let Some(chosen) = known.get(usize::from(a.stream)) else {
+        return 0;
+    };
+    let place = class_of(at.pairs, at.part, at.prepared, a);
+    value_or(chosen.values.as_slice(), extreme_of(chosen.cell), place)
 }

@@ -10,6 +10,11 @@ pub record AreLeft (word left next : ℕ) : Type 0 where
   pub from : (k : ℕ) → k < next → k < 64 → bit_at left k ≡ 0
   pub same : (k : ℕ) → next ≤ k → k < 64 → bit_at left k ≡ bit_at word k
 
+-- the word has a bit at the place, and no other
+pub record IsOnlyBit (word place : ℕ) : Type 0 where
+  pub own : bit_at word place ≡ 1
+  pub others : (k : ℕ) → k ≢ place → bit_at word k ≡ 0
+
 pub left_all : (word : ℕ) → AreLeft word word 0
 left_all word = record { from = λ k a b. absurd (omega (arith, a)); same = λ k a b. refl }
 

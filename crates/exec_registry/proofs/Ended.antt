@@ -16,12 +16,12 @@ use Rattle.exec_registry.specs.declared.queries.Runner.{Runner}
 use Rattle.exec_registry.specs.Live.{Live, live_of, named}
 use Rattle.exec_registry.specs.Counted.{shown, run_to, IsCounted}
 use Rattle.exec_registry.specs.Registry.{IsSound, KeepsToEach}
-use Rattle.exec_registry.specs.RowByQuery.{AreSpared, IsOnlyBit, TookFirst, TookOne}
+use Rattle.exec_registry.specs.RowByQuery.{AreSpared, TookFirst, TookOne}
 use Rattle.exec_registry.specs.Waiting.{AreQuiet}
 use Rattle.exec_registry.proofs.SideBySide.{under, under_same, under_names}
 use Rattle.exec_registry.proofs.Shown.{sized, size_run}
 use Rattle.exec_registry.proofs.InTurn.{took_none}
-use Rattle.exec_registry.proofs.BitsLeft.{left_all, left_more, none_after}
+use Rattle.exec_registry.proofs.BitsLeft.{IsOnlyBit, left_all, left_more, none_after}
 use Rattle.exec_registry.proofs.Spared.{mixed, step_ready, step_keeps, step_plan, step_took, ahead_waits, all_took, all_counted, wrapped, few_rows, shown_waits, wrapped_counted}
 
 -- the row was given to all live queries, and nothing waits of those that have no bit in the word

@@ -1,5 +1,5 @@
 -- The live queries are written one after the other.
-use Rattle.std.proofs.Common.{◌≡◌, ℕ, suc, ◌+◌, ◌<◌, inl, inr, List, [], ◌∷◌, ◌++◌, length, take, drop, take-append-drop, append-nil, refl, sym, ap, ◌∙◌, subst, arith, slice_index_or, slice_set}
+use Rattle.std.proofs.Common.{◌≡◌, ℕ, suc, ◌+◌, ◌<◌, inl, inr, List, [], ◌∷◌, ◌++◌, length, take, drop, take-append-drop, append-nil, refl, sym, ap, ◌∙◌, subst, arith, slice_get, slice_index_or, slice_set, Some}
 use Rattle.std.proofs.lemmas.Bool.{cases_eq}
 use Rattle.std.proofs.lemmas.List.{length-set, get_or-set_same, get_or-set_other, get_or_default}
 use Rattle.std.specs.Prelude.{⊤}
@@ -15,10 +15,12 @@ use Rattle.exec_answer_lines.proofs.Gathering.{gathered_more, gathered_broke, ga
 use Rattle.exec_answer_table.specs.Entries.{settled}
 use Rattle.exec_query.specs.Executor.{ExecutorValue, with_given}
 use Rattle.exec_registry.specs.declared.queries.Runner.{Runner}
-use Rattle.exec_registry.specs.Counted.{run_to}
-use Rattle.exec_registry.specs.Live.{Live, named}
+use Rattle.exec_registry.specs.Counted.{run_to, shown}
+use Rattle.exec_registry.specs.Live.{Live, live_of, named}
 use Rattle.exec_registry.specs.Registry.{waiting_text}
-use Rattle.exec_registry.specs.Written.{WroteOne, WroteFirst, WritesNext, GathersNext, GatheredSo}
+use Rattle.exec_registry.specs.Written.{WroteOne, WroteAt, WroteFirst, GathersNext, GatheredSo}
+use Rattle.exec_registry.proofs.SideBySide.{live_named, set_named}
+use Rattle.exec_registry.proofs.Shown.{run_stands, shown_set, sized}
 
 pub wrote_none : (live : List Live) → WroteFirst 0 live live
 wrote_none live = record { size = refl; done = λ i l a b. absurd (omega arith); others = λ i l a b. refl }
@@ -61,12 +63,16 @@ gathered_next {E} (Err e) result xs n d a b c now later within so next =
     subst (λ (r : Result ⊤ E). GatheredSo r a c later (flat_map waiting_text (take (suc n) xs)) (flat_map waiting_text xs)) (sym next.0)
     (subst (λ s. BrokeOff a s (flat_map waiting_text xs)) (sym next.1) so)
 
--- all were gathered, or the text broke off; then what is gathered was written
-pub gathered_all : {E : Type 0} (gathered result : Result ⊤ E) (a b c : SinkState) (now front text : List ℕ) → front ≡ text
-    → GatheredSo gathered a b now front text → WritesNext gathered result b c now → Writes result a c text
-gathered_all (Ok x) result a b c now front text e so next = subst (Writes result a c) e (gathered_written result a b c now front so next)
-gathered_all {E} (Err x) result a b c now front text e so next =
-    subst (λ (r : Result ⊤ E). Writes r a c text) (sym next.0) (subst (λ s. BrokeOff a s text) (sym next.1) so)
+-- all were gathered, and what is gathered was written
+pub gathered_all : {E : Type 0} (gathered result : Result ⊤ E) (x : ⊤) (a b c : SinkState) (now front text : List ℕ) → gathered ≡ Ok x → front ≡ text
+    → GatheredSo gathered a b now front text → Writes result b c now → Writes result a c text
+gathered_all {E} gathered result x a b c now front text is e so next =
+    subst (Writes result a c) e (gathered_written result a b c now front (subst (λ (r : Result ⊤ E). GatheredSo r a b now front text) is so) next)
+
+-- the text broke off before
+pub gathered_fault : {E : Type 0} (gathered : Result ⊤ E) (fault : E) (a b : SinkState) (now front text : List ℕ) → gathered ≡ Err fault
+    → GatheredSo gathered a b now front text → BrokeOff a b text
+gathered_fault {E} gathered fault a b now front text is so = subst (λ (r : Result ⊤ E). GatheredSo r a b now front text) is so
 
 -- where nothing is gathered, all were written
 pub gathered_none_left : {E : Type 0} (result : Result ⊤ E) (a c : SinkState) (now front text : List ℕ) → now ≡ [] → front ≡ text
@@ -75,7 +81,7 @@ gathered_none_left {E} (Ok x) a c now front text none e so = subst (Wrote a c) e
 gathered_none_left (Err x) a c now front text none e so = so
 
 -- a live query of which so many rows were counted was written or given up
-pub wrote_counted : (rows : ℕ) (name : List ℕ) (before after : Runner) (e : ExecutorValue) → e ≡ run_to rows before → after.before ≡ before.before
+wrote_counted : (rows : ℕ) (name : List ℕ) (before after : Runner) (e : ExecutorValue) → e ≡ run_to rows before → after.before ≡ before.before
     → after.executor ≡ with_given e e.given (settled e.table.entries) → WroteOne (named name e) (named name after.executor)
     → WroteOne (named name (run_to rows before)) (named name (run_to rows after))
 wrote_counted rows name before after e is counted same one =
@@ -84,3 +90,19 @@ wrote_counted rows name before after e is counted same one =
     let later : after.executor ≡ run_to rows after = ap (λ n. with_given after.executor n after.executor.table.entries) given in
     subst (λ (x : ExecutorValue). WroteOne (named name (run_to rows before)) (named name x)) later
     (subst (λ (x : ExecutorValue). WroteOne (named name x) (named name after.executor)) is one)
+
+-- so was the one at a place
+pub wrote_at : (names : List (List ℕ)) (items : List Runner) (rows place : ℕ) (live : List Live) (name : List ℕ) (own after : Runner) (caught : ExecutorValue)
+    → length names ≡ length items → live_of names (shown rows items) ≡ live → slice_get names place ≡ Some name → place < length items → own ≡ slice_index_or items place own
+    → caught ≡ run_to rows own → after.before ≡ own.before → after.executor ≡ with_given caught caught.given (settled caught.table.entries)
+    → WroteOne (named name caught) (named name after.executor) → WroteAt place live (live_of names (shown rows (slice_set items place after)))
+wrote_at names items rows place live name own after caught same view there within at is counted kept one =
+    let side = sized rows names items same in
+    let later : ExecutorValue = run_to rows after in
+    record {
+      live = named name later;
+      wrote = λ l. subst (λ (x : Live). WroteOne x (named name later))
+          (sym (live_named names (shown rows items) live place name (run_to rows own) l side view there (run_stands rows items place own within at)))
+          (wrote_counted rows name own after caught is counted kept one);
+      set = ap (λ (es : List ExecutorValue). live_of names es) (shown_set rows items place after) ∙ set_named names (shown rows items) live place name later side view there;
+    }

@@ -9,7 +9,7 @@ use Rattle.exec_answer_lines.specs.Gathering.{Gathered, Gathers}
 use Rattle.exec_answer_lines.proofs.Gathering.{gathered_none}
 use Rattle.exec_registry.specs.Live.{Live}
 use Rattle.exec_registry.specs.Registry.{waiting_text}
-use Rattle.exec_registry.specs.RowByQuery.{IsOnlyBit}
+use Rattle.exec_registry.proofs.BitsLeft.{IsOnlyBit}
 use Rattle.exec_registry.specs.Waiting.{AreQuiet}
 use Rattle.exec_registry.specs.Written.{WroteAt, WroteFirst}
 use Rattle.exec_registry.proofs.Quiet.{wrote_skip, wrote_rest, text_skip, text_all}

@@ -1,5 +1,5 @@
 -- Names and what runs the queries, side by side.
-use Rattle.std.proofs.Common.{◌≡◌, ℕ, zero, suc, ◌+◌, ◌<◌, cond, ◌||◌, not, nat_lt, List, [], ◌∷◌, ◌++◌, length, map, Some, None, refl, sym, ap, ◌∙◌, subst, slice_get, slice_index_or, slice_set, arith}
+use Rattle.std.proofs.Common.{◌≡◌, ℕ, zero, suc, ◌+◌, ◌<◌, cond, ◌||◌, not, nat_lt, List, [], ◌∷◌, ◌++◌, length, map, Option, Some, None, Bor, option_copied, refl, sym, ap, ◌∙◌, subst, slice_get, slice_index_or, slice_set, arith}
 use Rattle.std.proofs.lemmas.List.{get_or_default, length-map}
 use Rattle.std.proofs.lemmas.Option.{get_or_from_slice_get, slice_get_within}
 use Rattle.std.proofs.lemmas.Cmp.{nat_list_eq_equiv}
@@ -87,6 +87,10 @@ live_named names executors live i name e l same is there at =
     let size = size_as names executors live same is in
     live_in names executors live i name e l same is (omega (arith, within, size, same))
     ∙ ap (λ n. named n (slice_index_or executors i e)) (get_or_from_slice_get names i name name there) ∙ ap (λ (x : ExecutorValue). named name x) (sym at)
+
+-- the name that was found at a place stands there
+pub name_there : (keys : List (List ℕ)) (i : ℕ) (o : Option (Bor (List ℕ))) (found : Bor (List ℕ)) → option_copied o ≡ slice_get keys i → o ≡ Some found → slice_get keys i ≡ Some found.now
+name_there keys i o found key is = sym key ∙ ap (λ (x : Option (Bor (List ℕ))). option_copied x) is
 
 -- the name at a place is that of the live query there
 pub named_there : (found : List ℕ) (names : List (List ℕ)) (executors : List ExecutorValue) (live : List Live) (i : ℕ) (d : Live)

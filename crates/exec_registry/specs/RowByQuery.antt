@@ -1,5 +1,5 @@
 -- What a row does to the live queries, one after the other.
-use Rattle.std.specs.Prelude.{◌≡◌, ◌≢◌, ℕ, ◌+◌, ◌<◌, ◌≤◌, List, [], length, slice_index_or}
+use Rattle.std.specs.Prelude.{◌≡◌, ℕ, ◌+◌, ◌<◌, ◌≤◌, List, [], length, slice_index_or}
 use Rattle.std.specs.Int.{bit_at}
 use Rattle.sem_query.specs.Meaning.{Arrival}
 use Rattle.exec_pool.specs.Extents.{PoolValue, with_cells, cells_of}
@@ -20,11 +20,6 @@ pub record TookOne (r : Arrival) (pool later : PoolValue) (before after : Live) 
   pub kept : AreKept after.executor later
   pub within : KeepsWithin before.executor pool → KeepsWithin after.executor later
   pub bases : TookFrom before.executor pool r after.executor later
-
--- the word has a bit at the place, and no other
-pub record IsOnlyBit (word place : ℕ) : Type 0 where
-  pub own : bit_at word place ≡ 1
-  pub others : (k : ℕ) → k ≢ place → bit_at word k ≡ 0
 
 -- each live query that has no bit in the word refuses the row, and nothing waits of it; the word has bits of live queries alone
 pub record AreSpared (word : ℕ) (r : Arrival) (live : List Live) : Type 0 where

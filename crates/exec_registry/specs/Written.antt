@@ -2,7 +2,7 @@
 use Rattle.std.specs.Prelude.{◌≡◌, ℕ, ◌<◌, ◌≤◌, List, [], length, slice_index_or, slice_set, ⊤}
 use Rattle.std.specs.declared.result.Result.{Result}
 use Rattle.std.specs.declared.result.Result.TheVariants.{Ok, Err}
-use Rattle.io_streams.specs.Sink.{SinkState, Writes, BrokeOff}
+use Rattle.io_streams.specs.Sink.{SinkState, BrokeOff}
 use Rattle.exec_answer_lines.specs.Gathering.{Gathered, Gathers}
 use Rattle.exec_answer_table.specs.Entries.{settled}
 use Rattle.sem_query.specs.Meaning.{Arrival}
@@ -33,11 +33,6 @@ pub record WroteFirst (n : ℕ) (before after : List Live) : Type 0 where
   pub size : length after ≡ length before
   pub done : (i : ℕ) (l : Live) → i < n → i < length before → WroteOne (slice_index_or before i l) (slice_index_or after i l)
   pub others : (i : ℕ) (l : Live) → n ≤ i → i < length before → slice_index_or after i l ≡ slice_index_or before i l
-
--- a text was written after what went so; after a fault nothing is
-abbrev pub WritesNext : {E : Type 0} → Result ⊤ E → Result ⊤ E → SinkState → SinkState → List ℕ → Type 0
-WritesNext (Ok x) result before after text = Writes result before after text
-WritesNext (Err e) result before after text = (result ≡ Err e) × (after ≡ before)
 
 -- a text was gathered after what went so; after a fault nothing is
 abbrev pub GathersNext : {E : Type 0} → Result ⊤ E → Result ⊤ E → SinkState → SinkState → List ℕ → List ℕ → List ℕ → Type 0

@@ -26,32 +26,6 @@ pub enum Listing {
     Spared,
 }
 
-impl Listing {
-    // Whether the candidates for the rows are listed.
-    fn is_listed(self) -> bool
-        ensures listed { IsTrue result → self ≢ listing.Unlisted }
-        ensures other { IsFalse result → self ≡ listing.Unlisted }
-    {
-        match self {
-            Listing::Unlisted => false,
-            Listing::Listed => true,
-            Listing::Spared => true,
-        }
-    }
-
-    // Whether each live query refuses each of the rows.
-    fn is_spared(self) -> bool
-        ensures spared { IsTrue result → self ≡ listing.Spared }
-        ensures other { IsFalse result → self ≢ listing.Spared }
-    {
-        match self {
-            Listing::Unlisted => false,
-            Listing::Listed => false,
-            Listing::Spared => true,
-        }
-    }
-}
-
 /// For each stream the candidates among the live queries, and for each number that a stream may have what is known of its rows. Where live
 /// queries came or went, the candidates of a stream are listed anew before its next row.
 #[derive(Drop)]
@@ -140,55 +114,23 @@ impl Concerned {
         self.listings = [Listing::Unlisted; 256];
     }
 
-    /// Returns whether each live query is known to refuse each row of a stream.
-    #[inline(always)]
-    pub fn spares(&self, stream: u8) -> bool
-        requires { length self.now.listings ≡ 256 }
-        ensures spared { IsTrue result → slice_index_or self.now.listings stream listing.Unlisted ≡ listing.Spared }
-        ensures other { IsFalse result → slice_index_or self.now.listings stream listing.Unlisted ≢ listing.Spared }
-    {
-        self.listings[usize::from(stream)].is_spared()
-    }
-
-    // Lists the candidates of a stream anew.
-    fn list_anew(&mut self, stream: u8, live: &Queries)
-        requires few { length live.now ≤ 64 }
-        requires stream { stream < length self.old.streams.items }
-        requires told { IsTold self.old live.now }
-        ensures told { IsTold self.new live.now }
-        ensures listed { slice_index_or self.new.listings stream listing.Unlisted ≢ listing.Unlisted }
-    {
-        let number = usize::from(stream);
-        self.listings[number] = list_stream(&mut self.streams[number], live, stream);
-    }
-
-    // Returns the candidates for a row of a stream of which they are listed.
-    #[inline(always)]
-    fn of_listed(&self, stream: u8, row: &Row, live: &Queries) -> Concerns
-        requires told { IsTold self.now live.now }
-        requires listed { slice_index_or self.now.listings stream listing.Unlisted ≢ listing.Unlisted }
-        ensures { MayConcern result.word (arrival stream row.now.items) live.now }
-    {
-        let number = usize::from(stream);
-        self.streams[number].of(row.as_slice())
-    }
-
-    // Returns the candidates for a row of a stream of which they are not listed, and lists them where there may be such a stream. It is not
-    // inlined, so that a row of a stream of which they are listed pays nothing for it.
+    // Lists the candidates of a stream anew where there may be such a stream, and tells whether it did. It is not inlined, so that a row of a
+    // stream of which they are listed pays nothing for it.
     #[cold]
     #[inline(never)]
-    fn of_unlisted(&mut self, stream: u8, row: &Row, live: &Queries) -> Concerns
+    fn list_anew(&mut self, stream: u8, live: &Queries) -> bool
         requires few { length live.now ≤ 64 }
         requires told { IsTold self.old live.now }
         ensures told { IsTold self.new live.now }
-        ensures may { MayConcern result.word (arrival stream row.now.items) live.now }
+        ensures listed { IsTrue result → slice_index_or self.new.listings stream listing.Unlisted ≢ listing.Unlisted }
+        ensures other { IsFalse result → length self.old.streams.items ≤ stream }
     {
-        if usize::from(stream) >= self.streams.len() {
-            let word = all_of(live.len());
-            return Concerns { word, within: 0 };
+        let number = usize::from(stream);
+        if number >= self.streams.len() {
+            return false;
         }
-        self.list_anew(stream, live);
-        self.of_listed(stream, row, live)
+        self.listings[number] = list_stream(&mut self.streams[number], live, stream);
+        true
     }
 
     /// Returns the candidates for a row of a stream, which are listed first where live queries came or went.
@@ -199,9 +141,16 @@ impl Concerned {
         ensures told { IsTold self.new live.now }
         ensures may { MayConcern result.word (arrival stream row.now.items) live.now }
     {
-        if self.listings[usize::from(stream)].is_listed() {
-            return self.of_listed(stream, row, live);
+        let number = usize::from(stream);
+        let is_listed = match self.listings[number] {
+            Listing::Unlisted => self.list_anew(stream, live),
+            Listing::Listed | Listing::Spared => true,
+        };
+        if !is_listed {
+            // There can be no such stream.
+            let word = all_of(live.len());
+            return Concerns { word, within: 0 };
         }
-        self.of_unlisted(stream, row, live)
+        self.streams[number].of(row.as_slice())
     }
 }

@@ -1,5 +1,5 @@
 //! The live queries: their names, and what runs each of them. Clauses speak of the list that the two are side by side.
-ghost use Rattle.std.specs.Prelude.{◌≡◌, ◌<◌, [], ◌∷◌, ◌++◌, false, length, slice_get, slice_index_or, map, ◌+◌, ◌≤◌, ◌^◌, All, IfErr, IfOk, OnErr, OnOk, Some};
+ghost use Rattle.std.specs.Prelude.{◌≡◌, ◌<◌, [], ◌∷◌, ◌++◌, false, length, slice_index_or, map, ◌+◌, ◌≤◌, ◌^◌, All, IfErr, IfOk, OnErr, OnOk};
 ghost use Rattle.std.specs.List.{list_any, position, remove};
 ghost use Rattle.std.specs.Str.{bytes_eq};
 ghost use Rattle.indexmap.specs.IndexSet.{spare};
@@ -42,14 +42,6 @@ impl Model for Queries {
     ghost invariant = { λ q. (length q.names.keys ≡ length q.runners.items) × All (IsCounted q.rows) q.runners.items };
 }
 
-/// Returns the name at a place.
-pub fn name_at(names: &IndexSet<Name>, place: usize) -> &Name
-    requires { place < length names.now.keys }
-    ensures { slice_get names.now.keys place ≡ Some result.now }
-{
-    names.get_index(place).unwrap()
-}
-
 // Puts a new name behind the others, for which there is room.
 fn put_name(names: &mut IndexSet<Name>, name: Name)
     requires room { 0 < spare names.old }
@@ -76,19 +68,6 @@ impl Runner {
         ensures before { self.new.before ≡ self.old.before }
     {
         self.executor.pass(self.before + rows);
-    }
-
-    // Returns what runs the query, which knows how many rows were given to it.
-    fn into_executor(self, rows: u64) -> Executor
-        requires { IsCounted rows self }
-        ensures { result ≡ run_to rows self }
-    {
-        let Runner {
-            mut executor,
-            before,
-        } = self;
-        executor.pass(before + rows);
-        executor
     }
 }
 
@@ -165,7 +144,7 @@ impl Queries {
         requires { place < length self.now }
         ensures { (d : Live) → result.now ≡ (slice_index_or self.now place d).name }
     {
-        name_at(&self.names, place)
+        self.names.get_index(place).unwrap()
     }
 
     /// Returns what runs the live query at a place, which may count fewer rows than were given.
@@ -230,7 +209,13 @@ impl Queries {
     {
         // The name is there, and nobody asks for it any more.
         let _name = self.names.shift_remove_index(place);
-        self.runners.remove(place).into_executor(self.rows)
+        let mut runner = self.runners.remove(place);
+        runner.catch_up(self.rows);
+        let Runner {
+            executor,
+            before: _,
+        } = runner;
+        executor
     }
 
     /// Ends them where none is left.

@@ -15,7 +15,7 @@ ghost use Rattle.exec_registry.specs.Loaded.{LoadsAt};
 ghost use Rattle.exec_registry.specs.Passed.{passed};
 ghost use Rattle.exec_registry.specs.Registry.{IsSound, KeepQueries, waiting_text, most_cells, most_reads, most_writes};
 
-use crate::concerned::{Concerned, all_of};
+use crate::concerned::{Concerned, Listing, all_of};
 use crate::loading;
 use crate::queries::Queries;
 use crate::refusal::CreateError;
@@ -234,7 +234,10 @@ impl Registry {
     pub fn spares(&self, stream: u8) -> bool
         ensures { IsTrue result → SparesStream stream self.now.live }
     {
-        self.concerned.spares(stream)
+        matches!(
+            self.concerned.listings[usize::from(stream)],
+            Listing::Spared
+        )
     }
 
     /// Counts so many rows as given to each live query, which refuses them: all else is as before.

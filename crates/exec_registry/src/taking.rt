@@ -1,11 +1,11 @@
 //! What a row does to all live queries.
-ghost use Rattle.std.specs.Prelude.{◌≡◌, ◌<◌, ◌≤◌, ◌+◌, ◌%◌, ◌^◌, All, List, ℕ, true, false, length, [], IfSome};
+ghost use Rattle.std.specs.Prelude.{◌≡◌, ◌<◌, ◌≤◌, ◌+◌, ◌^◌, All, List, ℕ, false, length, []};
 ghost use Rattle.sem_query.specs.Domains.{RowKeeps};
 ghost use Rattle.exec_query.specs.Executor.{arrival, waiting_in};
 ghost use Rattle.exec_query.specs.Standing.{IsReady};
 ghost use Rattle.exec_registry.specs.Live.{named, plan_reads, plan_writes};
 ghost use Rattle.exec_registry.specs.Registry.{IsSound, KeepsToEach, most_reads, most_writes};
-ghost use Rattle.exec_registry.specs.RowByQuery.{AreSpared, IsOnlyBit, TookOne, TookFirst};
+ghost use Rattle.exec_registry.specs.RowByQuery.{AreSpared, TookOne, TookFirst};
 ghost use Rattle.exec_registry.specs.Counted.{IsCounted, run_to};
 ghost use Rattle.exec_registry.specs.Waiting.{AreQuiet};
 
@@ -43,13 +43,6 @@ fn take_next<L: Ledger>(
     // Read for the proof alone: the call tells what is true of what runs the query.
     let _sound = runner.executor.plan();
     waits
-}
-
-// The number of rows with one more. Where no query is live it is of no account, and may be too large.
-fn one_more(rows: u64) -> u64
-    ensures { result ≡ (rows + 1) % 2 ^ 64 }
-{
-    rows.wrapping_add(1)
 }
 
 // Gives a row to the live queries that a word has, in order of creation, and counts it for all others. It is not inlined, so that a row of
@@ -90,31 +83,8 @@ fn apply_to_each<L: Ledger>(
         waiting = noted(waiting, place, waits);
         next = place + 1;
     }
-    live.rows = one_more(rows);
+    live.rows = rows.wrapping_add(1);
     waiting
-}
-
-// Returns the word where an answer waits, and else none of its bits.
-#[inline(always)]
-fn kept_where(waits: bool, word: u64) -> u64
-    ensures some { waits ≡ true → result ≡ word }
-    ensures none { waits ≡ false → result ≡ 0 }
-{
-    if waits { word } else { 0 }
-}
-
-/// Returns the place of the bit of a word that has no other.
-#[inline(always)]
-#[tactic(auto, using(crate::proofs::Ended::only_left))]
-pub(crate) fn only_bit(word: u64) -> Option<usize>
-    requires { 0 < word }
-    ensures { IfSome result (λ place. IsOnlyBit word place) }
-{
-    let place = lowest_bit(word);
-    if without_bit(word, place) != 0 {
-        return None;
-    }
-    Some(place)
 }
 
 /// Gives a row, whose values lie in the domains of each live query that names its stream, to the live queries that a word has, in order of
@@ -138,19 +108,22 @@ pub fn apply_to_all<L: Ledger>(
     ensures writes { steps.new.writes ≤ steps.old.writes + most_writes live.old }
 {
     if asked.word == 0 {
-        live.rows = one_more(live.rows);
+        // Where no query is live the number of rows is of no account, and may be too large.
+        live.rows = live.rows.wrapping_add(1);
         return 0;
     }
-    let Some(place) = only_bit(asked.word) else {
+    let place = lowest_bit(asked.word);
+    if without_bit(asked.word, place) != 0 {
+        // There are others.
         return apply_to_each(pool, live, asked, stream, row, steps);
-    };
+    }
     let rows = live.rows;
-    live.rows = one_more(rows);
+    live.rows = rows.wrapping_add(1);
     let runners = live.runners.as_mut_slice();
     let hint = RowHint {
         is_within: asked.word & asked.within != 0,
         is_alone: true,
     };
     let waits = take_next(pool, &mut runners[place], hint, rows, stream, row, steps);
-    kept_where(waits, asked.word)
+    if waits { asked.word } else { 0 }
 }

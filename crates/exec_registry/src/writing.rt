@@ -3,49 +3,18 @@ ghost use Rattle.std.specs.Prelude.{◌≡◌, ◌<◌, [], true, length, slice_
 ghost use Rattle.std.specs.List.{flat_map};
 ghost use Rattle.io_streams.specs.Sink.{Writes};
 ghost use Rattle.exec_answer_lines.specs.Gathering.{Gathers};
-ghost use Rattle.exec_registry.specs.Live.{Live, named};
+ghost use Rattle.exec_registry.specs.Live.{Live};
 ghost use Rattle.exec_registry.specs.Registry.{waiting_text};
-ghost use Rattle.exec_registry.specs.Written.{GathersNext, WritesNext, WroteOne, WroteAt, WroteFirst};
-ghost use Rattle.exec_registry.specs.Counted.{IsCounted, run_to};
+ghost use Rattle.exec_registry.specs.Written.{GathersNext, WroteAt, WroteFirst};
 ghost use Rattle.exec_registry.specs.Waiting.{AreQuiet};
 
-use crate::queries::{Queries, Runner, name_at};
-use crate::taking::only_bit;
+use crate::queries::Queries;
 use exec_answer_lines::AnswerLines;
 use exec_query_index::{lowest_bit, without_bit};
 use io_streams::{Sink, WriteFault};
-use sql_text::Name;
 
-// Gathers what waits of a live query, of which so many rows were counted, behind what is gathered, or gives it up where the sink failed before.
-// Where it is alone and nothing is gathered, it is written.
-#[inline(always)]
-fn put_next<O: Sink>(
-    gathered: Result<(), WriteFault>,
-    is_alone: bool,
-    name: &Name,
-    runner: &mut Runner,
-    rows: u64,
-    lines: &mut AnswerLines,
-    out: &mut O,
-) -> Result<(), WriteFault>
-    requires counted { IsCounted rows runner.old }
-    requires alone { is_alone ≡ true → lines.old ≡ [] }
-    ensures gathered { GathersNext gathered result (O.seen out.old) (O.seen out.new) lines.old lines.new (waiting_text (named name.now (run_to rows runner.old))) }
-    ensures written { is_alone ≡ true → lines.new ≡ [] }
-    ensures wrote { WroteOne (named name.now (run_to rows runner.old)) (named name.now (run_to rows runner.new)) }
-    ensures counted { IsCounted rows runner.new }
-{
-    runner.executor.pass(runner.before + rows);
-    match gathered {
-        Ok(()) => runner.executor.emit(is_alone, name, lines, out),
-        Err(fault) => {
-            runner.executor.give_up();
-            Err(fault)
-        }
-    }
-}
-
-// Gathers what waits of the live query at a place, or gives it up where the sink failed before.
+// Gathers what waits of the live query at a place behind what is gathered, or gives it up where the sink failed before. Where it is alone and
+// nothing is gathered, it is written.
 #[inline(always)]
 fn put_at<O: Sink>(
     gathered: Result<(), WriteFault>,
@@ -61,23 +30,15 @@ fn put_at<O: Sink>(
     ensures written { is_alone ≡ true → lines.new ≡ [] }
     ensures wrote { WroteAt place live.old live.new }
 {
-    let name = name_at(&live.names, place);
-    let rows = live.rows;
+    let name = live.names.get_index(place).unwrap();
     let runner = &mut live.runners[place];
-    put_next(gathered, is_alone, name, runner, rows, lines, out)
-}
-
-// Writes what is gathered, or fails where the sink failed before.
-fn write_gathered<O: Sink>(
-    gathered: Result<(), WriteFault>,
-    lines: &mut AnswerLines,
-    out: &mut O,
-) -> Result<(), WriteFault>
-    ensures { WritesNext gathered result (O.seen out.old) (O.seen out.new) lines.old }
-{
+    runner.executor.pass(runner.before + live.rows);
     match gathered {
-        Ok(()) => lines.flush(out),
-        Err(fault) => Err(fault),
+        Ok(()) => runner.executor.emit(is_alone, name, lines, out),
+        Err(fault) => {
+            runner.executor.give_up();
+            Err(fault)
+        }
     }
 }
 
@@ -104,7 +65,10 @@ fn write_each<O: Sink>(
         gathered = put_at(gathered, false, live, place, lines, out);
         next = place + 1;
     }
-    write_gathered(gathered, lines, out)
+    match gathered {
+        Ok(()) => lines.flush(out),
+        Err(fault) => Err(fault),
+    }
 }
 
 /// Writes what waits of each live query, in order of creation, where nothing waits of those that a word has not. Where the sink fails,
@@ -125,8 +89,10 @@ pub fn write_all<O: Sink>(
     if word == 0 {
         return write_each(live, word, lines, out);
     }
-    match only_bit(word) {
-        Some(place) => put_at(Ok(()), true, live, place, lines, out),
-        None => write_each(live, word, lines, out),
+    let place = lowest_bit(word);
+    if without_bit(word, place) != 0 {
+        // There are others.
+        return write_each(live, word, lines, out);
     }
+    put_at(Ok(()), true, live, place, lines, out)
 }

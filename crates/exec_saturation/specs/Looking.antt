@@ -51,6 +51,11 @@ pub record CanLook (q : QueryValue) (parts : List PartPlan) (asked : PreparedPla
   pub two : length q.from ≡ 2
   pub shares : (part : PartPlan) → Contains parts part → share part ≤ most
 
+-- the announced work of a plan
+abbrev pub work_of : Plan → ℕ
+work_of plan.Filter = 0
+work_of (plan.Parts parts numbers) = numbers.work
+
 -- with DISTINCT over two streams the cells of a plan are ready to be looked at, where a walk reads no more than the announced work
 abbrev pub CanLookAt : QueryValue → Plan → PreparedPlan → PoolValue → Extent → ℕ → Type 0
 CanLookAt q plan.Filter asked pool extent wide = Unit {0}

@@ -15,7 +15,7 @@ mod saturated;
 mod saturation;
 
 pub use cell_row::SeenCell;
-pub use cursor::{CellsAt, look_on};
-pub use looking::{LookedAt, look_beside_row};
+pub use cursor::LookedAt;
+pub use looking::look_beside_row;
 pub use saturated::is_saturated;
 pub use saturation::{Cursor, Saturation};

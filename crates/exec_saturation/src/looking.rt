@@ -10,24 +10,12 @@ ghost use Rattle.exec_saturation.specs.declared.saturation.Saturation.TheVariant
 ghost use Rattle.exec_saturation.specs.Known.{AreSaturated};
 ghost use Rattle.exec_saturation.specs.Looking.{CanLookAt, HasLookedBeside, spare_reads};
 
-use crate::cursor::{CellsAt, look_on};
+use crate::cursor::{Came, LookedAt, look_on};
 use crate::saturation::{Cursor, Saturation};
-use exec_answer_table::Answers;
 use exec_join::ProbeScratch;
-use exec_part_index::PreparedPlan;
-use exec_pool::{Extent, Pool, Steps};
-use sem_query::{Plan, Query, Tuple};
+use exec_pool::{Pool, Steps};
+use sem_query::{Plan, Tuple};
 use std::sync::ledger::Ledger;
-
-/// A query whose cells are looked at: its plan, what its parts are asked of every row, the extent of the cells, and the answer table.
-#[derive(Clone, Copy)]
-pub struct LookedAt<'a> {
-    pub q: &'a Query,
-    pub plan: &'a Plan,
-    pub prepared: &'a PreparedPlan,
-    pub extent: &'a Extent,
-    pub table: &'a Answers,
-}
 
 // Whether a stream is one of FROM.
 fn is_named(from: &[u8], stream: u8) -> bool
@@ -69,17 +57,12 @@ pub fn look_beside_row<L: Ledger>(
     match all.plan {
         Plan::Filter => Saturation::None,
         Plan::Parts { parts, numbers } => {
-            let cells = CellsAt {
-                q: all.q,
-                parts,
-                prepared: all.prepared,
-                extent: all.extent,
-                table: all.table,
-                most: numbers.work,
-            };
             let work = u64::from(numbers.work);
-            let budget = 2 * work - work / 2;
-            look_on(pool, &cells, cursor, budget, room, tuple, steps)
+            let from = Came {
+                at: cursor,
+                left: 2 * work - work / 2,
+            };
+            look_on(pool, all, parts, from, room, tuple, steps)
         }
     }
 }

@@ -3,6 +3,7 @@ pub mod GivenLines
 pub mod LineTexts
 pub mod Pieces
 pub mod Places
+mod Refills
 pub mod Steps
 pub mod TextLines
 mod LinesAhead

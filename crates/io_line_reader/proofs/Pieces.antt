@@ -1,6 +1,6 @@
 -- Parts of a buffer.
-use Rattle.std.proofs.Common.{◌≡◌, ℕ, ◌+◌, ◌-◌, ◌<◌, ◌≤◌, ◌≢◌, get_or, List, [], ◌∷◌, ◌++◌, length, take, drop, refl, sym, ap, ◌∙◌, subst, arith, append_assoc, length-drop, length-append, append-nil, zero, suc, Bool, true, false}
-use Rattle.std.proofs.lemmas.List.{take-append-drop, drop-take, drop-drop, drop_more, length-take, take-append-le, take_all, get_or-take}
+use Rattle.std.proofs.Common.{◌≡◌, ℕ, ◌+◌, ◌-◌, ◌<◌, ◌≤◌, ◌≢◌, get_or, List, [], ◌∷◌, ◌++◌, length, take, drop, refl, sym, ap, ◌∙◌, subst, arith, append_assoc, length-drop, length-append, zero, suc, Bool, true, false}
+use Rattle.std.proofs.lemmas.List.{take-append-drop, drop-take, drop-drop, drop_more, length-take, take_all}
 use Rattle.std.proofs.lemmas.List.Elements.{All-append, All-take}
 use Rattle.std.proofs.Math.Seq.{take-append_seam}
 use Rattle.std.specs.List.{slice_range}
@@ -47,29 +47,8 @@ range-none bytes a f e =
     let same : f - a ≡ 0 = omega arith in
     ap (λ k. take k (drop a bytes)) same
 
--- nothing of a line lies in the buffer
-pub held-line : (bytes begun : List ℕ) (from to : ℕ) → (from ≡ 0) × (to ≡ 0) → begun ++ slice_range bytes from to ≡ begun
-held-line bytes begun from to e = ap (λ l. begun ++ l) (range-none bytes from to (omega (arith, e.0, e.1))) ∙ append-nil begun
-
 pub short-range : (bytes : List ℕ) (a f : ℕ) → length (slice_range bytes a f) ≤ f - a
 short-range bytes a f = omega (arith, length-take (f - a) (drop a bytes))
-
--- what was read into the front of a buffer is ahead
-pub range-filled : (buffer more : List ℕ) (len most n : ℕ) → n ≤ length (take most buffer) → n ≤ len → slice_range (take len (buffer ++ more)) 0 n ≡ take n (take most buffer)
-range-filled buffer more len most n le fits =
-    let same : n - 0 ≡ n = omega arith in
-    let short : n ≤ most = omega (arith, length-take most buffer) in
-    let whole : n ≤ length buffer = omega (arith, length-take most buffer) in
-    ap (λ k. take k (take len (buffer ++ more))) same ∙ take-within (buffer ++ more) n len fits ∙ take-append-le n buffer more whole ∙ sym (take-within buffer n most short)
-
--- a byte that is there stays where more stands behind it
-pub byte-behind : (buffer more : List ℕ) (len n : ℕ) → get_or buffer n 0 ≡ 10 → n < len → get_or (take len (buffer ++ more)) n 0 ≡ 10
-byte-behind buffer more len n e fits = get_or-take len (buffer ++ more) n 0 fits ∙ byte-before buffer more n e
-  where
-    byte-before : (buffer more : List ℕ) (n : ℕ) → get_or buffer n 0 ≡ 10 → get_or (buffer ++ more) n 0 ≡ 10
-    byte-before [] more n e = absurd (omega (arith, e))
-    byte-before (x ∷ xs) more zero e = e
-    byte-before (x ∷ xs) more (suc n) e = byte-before xs more n e
 
 pub not-true : (b : Bool) → (b ≡ true → ⊥) → b ≡ false
 not-true true h = absurd (h refl)
@@ -79,7 +58,7 @@ pub empty-list : (xs : List ℕ) → length xs ≡ 0 → xs ≡ []
 empty-list [] e = refl
 empty-list (x ∷ xs) e = absurd (omega arith)
 
-later-plain : (b : ℕ) (bytes : List ℕ) → IsPlain (b ∷ bytes) → IsPlain bytes
+pub later-plain : (b : ℕ) (bytes : List ℕ) → IsPlain (b ∷ bytes) → IsPlain bytes
 later-plain b bytes plain = λ k d lt. plain (suc k) d (omega arith)
 
 -- an LF does not stand in a front that has none

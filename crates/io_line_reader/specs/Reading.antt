@@ -140,11 +140,6 @@ abbrev pub IsBegun : Bool → List ℕ → List ℕ → Type 0
 IsBegun true held line = 1024 < length line
 IsBegun false held line = held ≡ line
 
--- whether nothing of a line was begun
-abbrev pub IsNothing : Bool → List ℕ → Type 0
-IsNothing true line = line ≡ []
-IsNothing false line = 0 < length line
-
 -- what is answered to a line, by whether it is too long
 abbrev pub answer_to : Bool → LineAnswer
 answer_to true = TooLong

@@ -1,11 +1,9 @@
 //! The reader of lines.
-ghost use Rattle.std.specs.Prelude.{◌≡◌, ℕ, ◌≤◌, ◌-◌, ◌^◌, [], ◌∷◌, ◌++◌, ◌<◌, min, take, List, length, slice_index, set, false, IfOk};
-ghost use Rattle.io_streams.specs.Source.{ReadsSome};
-ghost use Rattle.io_line_reader.specs.Reading.{fresh, AreLinesAhead, GivesAll, GivesBuffered, IsBegun, IsBuffered, IsFirstFeed, IsNothing, NextLine, GivesLine, answer_to};
-ghost use Rattle.io_line_reader.specs.Buffers.{read_len};
+ghost use Rattle.std.specs.Prelude.{◌≡◌, ◌≤◌, ◌-◌, ◌^◌, [], ◌∷◌, ◌++◌, ◌<◌, take, true, false, IfOk};
+ghost use Rattle.io_line_reader.specs.Reading.{fresh, AreLinesAhead, GivesAll, GivesBuffered, IsBuffered, IsFirstFeed, NextLine, GivesLine, answer_to};
+ghost use Rattle.io_line_reader.specs.Buffers.{GivesLast, read_len};
 
 use crate::place::feed_place;
-use arrayvec::ArrayVec;
 use io_streams::{ReadAnswer, Source};
 use std::alloc::{AllocError, Global};
 use std::marker::Model;
@@ -26,7 +24,7 @@ pub enum LineAnswer {
     ByteLimit,
 }
 
-/// How many bytes are read at a time, at most. The buffer has room for one more.
+/// How many bytes are read at a time, at most.
 const CHUNK: usize = 4096;
 
 /// The most bytes of a line.
@@ -36,18 +34,17 @@ const LONGEST: usize = 1024;
 /// not empty. It has at most 1,024 bytes, the LF not counted.
 ///
 /// The reader takes at most 4,096 bytes beyond a line, and none where a line lies whole in what it took: it reads until the line
-/// ends, and no further. It works in two fixed buffers and takes no memory once it is made. It is meant to be called with one
+/// ends, and no further. It works in one fixed buffer and takes no memory once it is made. It is meant to be called with one
 /// source. Once it answers `End`, `ReadFault` or `ByteLimit`, it answers the same to each further call, and takes nothing.
 #[derive(Drop)]
 pub struct LineReader {
-    // What was read last, and an LF behind it, at `filled`. Of it, `at..filled` is ahead, and `from..to` is of the last line.
+    // The bytes that were taken last, and an LF behind them, at `filled`. Of them, `at..filled` is ahead, and `from..to` is the last line.
+    // A line that was begun is moved to the front before more is read behind it, so a line of at most 1,024 bytes lies whole in the buffer.
     chunk: Vec<u8>,
     at: usize,
     filled: usize,
     from: usize,
     to: usize,
-    // What was read before of the last line, or of the line that was begun.
-    begun: ArrayVec<u8, 1024>,
     taken: u64,
     lines: u64,
     ended: bool,
@@ -56,13 +53,13 @@ pub struct LineReader {
 
 impl Model for LineReader {
     ghost use Rattle.io_line_reader.specs.Reading.{Reading};
-    ghost use Rattle.std.specs.Prelude.{◌++◌, slice_range};
+    ghost use Rattle.std.specs.Prelude.{slice_range};
 
     ghost Value = { Reading };
 
     ghost view = { λ r. record {
       ahead = slice_range r.chunk.items r.at r.filled;
-      line = r.begun.items ++ slice_range r.chunk.items r.from r.to;
+      line = slice_range r.chunk.items r.from r.to;
       taken = r.taken;
       lines = r.lines;
       ended = r.ended;
@@ -70,28 +67,9 @@ impl Model for LineReader {
     } };
 
     ghost use Rattle.io_line_reader.specs.Buffers.{IsSound};
-    ghost use Rattle.std.specs.Prelude.{vec_len, length, slice_index};
+    ghost use Rattle.std.specs.Prelude.{vec_len};
 
-    ghost invariant = { λ r. IsSound (vec_len r.chunk) (slice_index r.chunk.items r.filled) r.at r.filled (length r.begun.items) r.from r.to r.taken r.lines r.ended r.failed };
-}
-
-// Adds a piece to the line that was begun, and says whether that is too long now.
-fn gather(begun: &mut ArrayVec<u8, 1024>, long: bool, piece: &[u8]) -> bool
-    requires { length begun.old.items ≤ 1024 }
-    ensures line { (line : List ℕ) → IsBegun long begun.old.items line → IsBegun result begun.new.items (line ++ piece.now) }
-    ensures short { length begun.new.items ≤ 1024 }
-{
-    if long {
-        return true;
-    }
-    begun.try_extend_from_slice(piece).is_err()
-}
-
-// Whether nothing of a line was begun.
-fn is_nothing(begun: &ArrayVec<u8, 1024>, long: bool) -> bool
-    ensures { (line : List ℕ) → IsBegun long begun.now.items line → IsNothing result line }
-{
-    !long && begun.is_empty()
+    ghost invariant = { λ r. IsSound r.chunk.items (vec_len r.chunk) r.at r.filled r.from r.to r.taken r.lines r.ended r.failed };
 }
 
 // What is answered to a line.
@@ -105,21 +83,6 @@ fn answer_to(long: bool) -> LineAnswer
     }
 }
 
-// How many bytes may be read at once, where so many were taken.
-fn room(taken: u64) -> usize
-    ensures { result ≡ min (2 ^ 64 - 1 - taken) 4096 }
-{
-    (u64::MAX - taken).min(4096) as usize
-}
-
-// Puts an LF into the buffer at a place.
-fn put_feed(buffer: &mut [u8], place: usize)
-    requires { place < length buffer.old }
-    ensures { buffer.new ≡ set buffer.old place 10 }
-{
-    buffer[place] = b'\n';
-}
-
 // How many bytes a read gave.
 fn read_len(answer: ReadAnswer) -> usize
     ensures { result ≡ read_len answer }
@@ -131,30 +94,17 @@ fn read_len(answer: ReadAnswer) -> usize
     }
 }
 
-// Reads at most so many bytes into the front of the buffer, and puts an LF behind them.
-fn read_front<I: Source>(input: &mut I, buffer: &mut [u8], most: usize) -> ReadAnswer
-    requires some { 0 < most }
-    requires fits { most < length buffer.old }
-    ensures reads { ReadsSome result (take most buffer.new) (I.seen input.old) (I.seen input.new) }
-    ensures feed { slice_index buffer.new (read_len result) ≡ 10 }
-{
-    let answer = input.read(&mut buffer[..most]);
-    put_feed(buffer, read_len(answer));
-    answer
-}
-
 impl LineReader {
-    /// Returns a reader that has taken nothing. Its two buffers are all the memory that it ever takes.
+    /// Returns a reader that has taken nothing. Its buffer is all the memory that it ever takes.
     pub fn new(alloc: Global) -> Result<LineReader, AllocError>
         ensures { IfOk result (λ reader. reader ≡ fresh) }
     {
         Ok(LineReader {
-            chunk: vec![in alloc; b'\n'; CHUNK + 1]?,
+            chunk: vec![in alloc; b'\n'; LONGEST + CHUNK + 1]?,
             at: 0,
             filled: 0,
             from: 0,
             to: 0,
-            begun: ArrayVec::new(),
             taken: 0,
             lines: 0,
             ended: false,
@@ -166,11 +116,7 @@ impl LineReader {
     pub fn line(&self) -> &[u8]
         ensures { result.now ≡ self.now.line }
     {
-        if self.begun.is_empty() {
-            &self.chunk[self.from..self.to]
-        } else {
-            &self.begun
-        }
+        &self.chunk[self.from..self.to]
     }
 
     /// Returns how many lines were given or called too long, which is the number of the last one, from 1.
@@ -198,7 +144,6 @@ impl LineReader {
         ensures gives { IsBuffered self.old self.new }
         ensures line { self.new.line ≡ take len self.old.ahead }
     {
-        self.begun.clear();
         self.from = self.at;
         self.to = self.at + len;
         self.at += len + 1;
@@ -213,7 +158,6 @@ impl LineReader {
         requires lines { AreLinesAhead self.old.ahead count begin end }
         ensures { GivesAll self.old self.new count begin end }
     {
-        self.begun.clear();
         self.from = self.at + begin;
         self.to = self.at + end - 1;
         self.at += end;
@@ -253,52 +197,57 @@ impl LineReader {
         if self.failed {
             return LineAnswer::ReadFault;
         }
-        self.read_line(input)
-    }
-
-    // Reads on until a line is there, or there is none.
-    fn read_line<I: Source>(&mut self, input: &mut I) -> LineAnswer
-        requires ended { self.old.ended ≡ false }
-        requires failed { self.old.failed ≡ false }
-        ensures { NextLine result self.old self.new (I.seen input.old) (I.seen input.new) }
-    {
-        self.begun.clear();
-        self.from = 0;
-        self.to = 0;
         let mut long = false;
         'reading: loop {
             if let Some(n) = feed_place(&self.chunk[self.at..self.filled]) {
-                long = gather(&mut self.begun, long, &self.chunk[self.at..self.at + n]);
+                self.from = self.at;
+                self.to = self.at + n;
                 self.at += n + 1;
                 self.lines += 1;
-                return answer_to(long);
+                return answer_to(long || n > LONGEST);
             }
-            long = gather(&mut self.begun, long, &self.chunk[self.at..self.filled]);
-            self.at = 0;
-            self.filled = 0;
-            let most = room(self.taken);
+            let most = (u64::MAX - self.taken).min(CHUNK as u64) as usize;
             if most == 0 {
-                put_feed(&mut self.chunk, 0);
+                self.at = self.filled;
                 return LineAnswer::ByteLimit;
             }
-            match read_front(input, &mut self.chunk, most) {
-                ReadAnswer::Got(n) => {
-                    self.filled = n;
-                    self.taken += n as u64;
-                }
-                ReadAnswer::End => {
-                    self.ended = true;
-                    if is_nothing(&self.begun, long) {
-                        return LineAnswer::End;
-                    }
-                    self.lines += 1;
-                    return answer_to(long);
-                }
+            // What was begun of a line that is too long is not kept. Else it is the tail, and more is read behind it.
+            long = long || self.filled - self.at > LONGEST;
+            let tail = if long { 0 } else { self.filled - self.at };
+            self.chunk.copy_within(self.at..self.at + tail, 0);
+            let answer = input.read(&mut self.chunk[tail..tail + most]);
+            self.to = self.from;
+            self.at = 0;
+            self.filled = tail + read_len(answer);
+            self.chunk[self.filled] = b'\n';
+            match answer {
+                ReadAnswer::Got(n) => self.taken += n as u64,
+                ReadAnswer::End => return self.give_last(long),
                 ReadAnswer::Failed => {
+                    self.at = tail;
                     self.failed = true;
                     return LineAnswer::ReadFault;
                 }
             }
         }
+    }
+
+    // Gives what is ahead as the last line, where the source has ended, unless nothing was begun. Of a line that is too long, nothing is ahead.
+    #[cold]
+    fn give_last(&mut self, long: bool) -> LineAnswer
+        requires open { (self.old.ended ≡ false) × (self.old.failed ≡ false) }
+        requires few { self.old.taken < 2 ^ 64 - 1 }
+        requires skipped { long ≡ true → self.old.lines < self.old.taken }
+        ensures { GivesLast result long self.old self.new }
+    {
+        self.from = self.at;
+        self.to = self.filled;
+        self.at = self.filled;
+        self.ended = true;
+        if self.from == self.to && !long {
+            return LineAnswer::End;
+        }
+        self.lines += 1;
+        answer_to(long)
     }
 }

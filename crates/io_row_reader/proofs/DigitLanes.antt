@@ -1,41 +1,21 @@
 -- Digits that are looked at together.
-use Rattle.std.proofs.Common.{◌≡◌, ℕ, zero, suc, ◌+◌, ◌-◌, ◌*◌, ◌%◌, ◌^◌, ◌<◌, ◌≤◌, Bool, true, false, not, cond, Fits, w8, List, [], ◌∷◌, ◌++◌, length, map, take, drop, replicate, refl, ap, sym, ◌∙◌, subst, arith}
+use Rattle.std.proofs.Common.{◌≡◌, ℕ, zero, suc, ◌+◌, ◌-◌, ◌*◌, ◌%◌, ◌^◌, ◌<◌, ◌≤◌, Bool, true, false, cond, List, [], ◌∷◌, ◌++◌, length, map, take, drop, replicate, refl, ap, sym, ◌∙◌, subst, arith}
 use Rattle.std.specs.Int.Digits.{AllBelowBase, number_from_digits, number_from_digits_after}
 use Rattle.std.specs.List.{prefix_len}
-use Rattle.std.proofs.lemmas.Bool.{agree_below, agree_below_at}
 use Rattle.std.proofs.lemmas.Bool.Decides.{nat_tests}
-use Rattle.std.proofs.lemmas.Simd.{leading_from_mask_l, map-map, mask_l-mod, trailing_mask_l}
+use Rattle.std.proofs.lemmas.Simd.{map-map, mask_l-mod}
 use Rattle.std.proofs.lemmas.List.{length-map}
-use lib.Lanes.{Each1, mask_l, top}
-use lib.Count.{count_trailing_zeros}
+use lib.Lanes.{mask_l, top}
 use Rattle.sql_text.specs.Word.{is_digit}
 use Rattle.sql_text.specs.Value.{amount, amount_after}
 use Rattle.io_row_reader.proofs.FieldsAhead.{HasDigits}
 use Rattle.io_row_reader.proofs.PlainFields.{within_18}
 use Rattle.io_row_reader.proofs.RowsCounted.{small_front}
 
--- How many digits stand in front.
-
-same_run : (p q : ℕ → Bool) (xs : List ℕ) → Each1 (Fits w8) xs → agree_below p q 256 ≡ true → prefix_len p xs ≡ prefix_len q xs
-same_run p q [] fit all = refl
-same_run p q (x ∷ xs) fit all =
-    ap (λ b. cond b (1 + prefix_len p xs) 0) (agree_below_at p q 256 x all fit.0.fits) ∙ ap (λ n. cond (q x) (1 + n) 0) (same_run p q xs fit.1 all)
-
 -- the mask of the lanes in which f sets the top bit, where these are the bytes that are no digits
 pub mask_is : (f : ℕ → ℕ) (lanes marks : List ℕ) → length lanes ≡ 16 → marks ≡ map f lanes → mask_l (map (top 7) marks) % 2 ^ 64 ≡ mask_l (map (λ x. top 7 (f x)) lanes)
 mask_is f lanes marks long is =
     ap (λ l. mask_l l % 2 ^ 64) (ap (map (top 7)) is ∙ map-map (top 7) f lanes) ∙ mask_l-mod (map (λ x. top 7 (f x)) lanes) 64 (omega (arith, length-map lanes (λ x. top 7 (f x)), long))
-
-pub all_digits : (f : ℕ → ℕ) (lanes marks : List ℕ) → length lanes ≡ 16 → Each1 (Fits w8) lanes → marks ≡ map f lanes → agree_below (λ x. not (top 7 (f x))) is_digit 256 ≡ true
-    → mask_l (map (top 7) marks) % 2 ^ 64 ≡ 0 → 16 ≡ prefix_len is_digit lanes
-all_digits f lanes marks long fit is all none =
-    sym long ∙ sym (leading_from_mask_l (λ x. top 7 (f x)) lanes (sym (mask_is f lanes marks long is) ∙ none)) ∙ same_run (λ x. not (top 7 (f x))) is_digit lanes fit all
-
-pub first_other : (f : ℕ → ℕ) (lanes marks : List ℕ) → length lanes ≡ 16 → Each1 (Fits w8) lanes → marks ≡ map f lanes → agree_below (λ x. not (top 7 (f x))) is_digit 256 ≡ true
-    → 0 < mask_l (map (top 7) marks) % 2 ^ 64 → count_trailing_zeros 64 (mask_l (map (top 7) marks) % 2 ^ 64) ≡ prefix_len is_digit lanes
-first_other f lanes marks long fit is all some =
-    let mask = mask_is f lanes marks long is in
-    ap (count_trailing_zeros 64) mask ∙ trailing_mask_l (λ x. top 7 (f x)) 64 lanes (omega (arith, long)) (omega (arith, mask, some)) ∙ same_run (λ x. not (top 7 (f x))) is_digit lanes fit all
 
 -- The amount of the digits in front.
 

@@ -28,9 +28,6 @@ pub record HasDigits (text : List ℕ) (start len kept : ℕ) : Type 0 where
   pub amount : len ≤ 19 → kept ≡ amount (take len (drop start text))
   pub small : len ≤ 19 → kept < 10 ^ len
 
-pub no_digits : (text : List ℕ) (start : ℕ) → start < length text → HasDigits text start 0 0
-no_digits text start room = record { digits = omega arith; within = omega (arith, room); amount = λ _. refl; small = λ _. omega arith }
-
 digit_no_feed : (b : ℕ) → is_digit b ≡ true → b ≡ 10 → ⊥
 digit_no_feed b h e = grind (arith, nat_tests)
 

@@ -1,8 +1,9 @@
 -- Lanes that are put behind zeros.
-use Rattle.std.proofs.Common.{◌≡◌, ℕ, zero, suc, ◌-◌, ◌<◌, ◌≤◌, w8, List, ◌++◌, length, map, take, drop, replicate, refl, subst, inl, inr, arith}
+use Rattle.std.proofs.Common.{◌≡◌, ℕ, zero, suc, ◌-◌, ◌<◌, ◌≤◌, w8, List, ◌++◌, length, map, take, drop, replicate, refl, ap, subst, inl, inr, arith}
 use Rattle.std.specs.Prelude.{⊤}
 use Rattle.std.specs.List.{range_with_len}
 use Rattle.std.proofs.lemmas.Bool.{cases_lt}
+use Rattle.std.proofs.lemmas.List.{length-append, length-replicate, length-take}
 use Rattle.std.proofs.lemmas.Simd.{SwzOk, swz_l}
 use lib.Lanes.{chunk}
 use Rattle.io_row_reader.specs.declared.lanes.TheConstants.{PLACES}
@@ -77,3 +78,7 @@ each_len f = (
 
 pub behind : (xs : List ℕ) (len : ℕ) → length xs ≡ 16 → len ≤ 16 → Behind xs len
 behind xs len long few = spelled (λ xs. Behind xs len) 16 (λ f. each (Behind (map f (range_with_len 0 16))) 17 len (each_len f) (omega (arith, few))) xs long
+
+-- there are as many of them behind zeros
+pub behind_long : (padded xs : List ℕ) (n : ℕ) → padded ≡ replicate (16 - n) 0 ++ take n xs → length xs ≡ 16 → n ≤ 16 → length padded ≡ 16
+behind_long padded xs n is long few = omega (arith, ap length is, length-append (replicate (16 - n) 0) (take n xs), length-replicate {A = ℕ} (16 - n) 0, length-take n xs, long, few)

@@ -13,7 +13,7 @@ use Rattle.sql_text.proofs.Fronts.{and_left, and_right, and_both}
 use Rattle.sql_text.proofs.LeadingValue.{flag}
 use Rattle.sql_catalog.specs.Rows.{IsNamed, begins_comma, is_named}
 use Rattle.sql_catalog.specs.Streams.{IsCatalog, IsName, Shape, all_differ, shape_at}
-use Rattle.sql_catalog.proofs.NamedFronts.{front_named, front_unnamed, other_unnamed, stream_found}
+use Rattle.sql_catalog.proofs.NamedFronts.{front_named, front_unnamed, stream_found}
 use Rattle.io_row_reader.specs.Ahead.{BeginsStream, IsEnded}
 use Rattle.io_row_reader.proofs.PlainFields.{clash}
 use Rattle.io_row_reader.proofs.PlainLines.{name_word}
@@ -61,10 +61,6 @@ mismatch text name i here other = elim (flag (bytes_eq (take (length name) text)
   | inl is ↦ absurd (other (sym (get_or-take (length name) text i 0 here) ∙ ap (λ (l : List ℕ). get_or l i 0) ((bytes_eq-Decides (take (length name) text) name).0 is)))
   | inr apart ↦ front_unnamed name text apart
 ]
-
--- another byte than a comma behind a name
-pub no_comma : (text name : List ℕ) (i : ℕ) → i ≡ length name → (get_or text i 0 ≡ 44 → ⊥) → is_named name text ≡ false
-no_comma text name i is other = other_unnamed name text (λ e. other (ap (λ n. get_or text n 0) is ∙ e))
 
 -- all bytes of a name, and a comma behind it
 pub name_found : (text name : List ℕ) (i : ℕ) → IsEnded text → IsName name → i < length text → i ≡ length name → take i text ≡ take i name → get_or text i 0 ≡ 44

@@ -1,13 +1,19 @@
 -- The amounts of two integers that stand behind zeros in the halves of a vector.
-use Rattle.std.proofs.Common.{◌≡◌, ℕ, ◌+◌, ◌-◌, ◌<◌, ◌≤◌, List, ◌++◌, length, map, take, drop, replicate, get_or, ap, sym, ◌∙◌, subst, arith}
+use Rattle.std.proofs.Common.{◌≡◌, ◌*◌, w8, [], ℕ, ◌+◌, ◌-◌, ◌<◌, ◌≤◌, List, ◌++◌, length, map, take, drop, replicate, get_or, ap, sym, ◌∙◌, subst, arith}
 use Rattle.std.specs.Int.Digits.{AllBelowBase, number_from_digits}
 use Rattle.std.specs.List.{prefix_len}
 use Rattle.std.proofs.ByRecursion.{All-append}
-use Rattle.std.proofs.lemmas.List.{drop-drop, drop-map, drop-take, take-append-drop, take-take}
+use Rattle.std.proofs.lemmas.List.{drop-drop, length-drop, length-map, length-take, drop-map, drop-take, take-append-drop, take-take}
 use Rattle.sql_text.specs.Value.{amount}
 use Rattle.sql_text.specs.Word.{is_digit}
 use Rattle.io_row_reader.specs.Short.{ArePair, IsShort}
 use Rattle.io_row_reader.proofs.DigitLanes.{behind_zeros_is, few_small, minus, run_whole}
+use Rattle.io_row_reader.proofs.PairEnds.{Ends}
+use Rattle.io_row_reader.proofs.PairRows.{Halves, halves, short_before}
+use Rattle.io_row_reader.specs.declared.orders.TheConstants.{ORDERS}
+use Rattle.std.proofs.lemmas.Simd.{swz_l}
+use lib.Lanes.{chunk}
+use lib.Count.{count_trailing_zeros}
 
 -- both halves of a vector
 pub record Both (halves lanes : List ℕ) (first second : ℕ) : Type 0 where
@@ -27,6 +33,38 @@ both lanes above halves first second is one two left right =
       left = front.number;
       right = back.number;
     }
+
+-- sixteen bytes of a text
+pub sixteen : (text lanes : List ℕ) (start : ℕ) → start + 16 ≤ length text → lanes ≡ take 16 (drop start text) → length lanes ≡ 16
+sixteen text lanes start room is = omega (arith, ap length is, length-take 16 (drop start text), length-drop start text, room)
+
+-- Where both integers end, by the marks of sixteen bytes, and the order for these places does not end with 0.
+pub record Placed (lanes : List ℕ) (first second : ℕ) : Type 0 where
+  pub run : first ≡ prefix_len is_digit lanes
+  pub more : second ≡ first + 1 + prefix_len is_digit (drop (first + 1) lanes)
+  pub within : second < 16
+  pub few : (0 < first) × (first ≤ 8) × (first + 1 < second) × (second ≤ first + 9)
+
+pub placed : (lanes : List ℕ) (marks later : ℕ) → Ends lanes marks later → 0 < get_or (get_or ORDERS (16 * count_trailing_zeros 64 marks + count_trailing_zeros 64 later) []) 15 0
+    → Placed lanes (count_trailing_zeros 64 marks) (count_trailing_zeros 64 later)
+placed lanes marks later h other =
+    let first = count_trailing_zeros 64 marks in
+    let second = count_trailing_zeros 64 later in
+    record {
+      run = h.first;
+      more = h.second;
+      within = h.within;
+      few = short_before first second (omega (arith, h.second, h.within)) h.within other;
+    }
+
+-- the order puts both into the halves of a vector
+pub placed_halves : (lanes : List ℕ) (first second : ℕ) → length lanes ≡ 16 → Placed lanes first second → Halves [] lanes first second
+placed_halves lanes first second long p = halves [] lanes first second long p.few.0 p.few.1 p.few.2 p.few.3 p.within
+
+pub both_placed : (lanes above : List ℕ) (first second : ℕ) → length lanes ≡ 16 → above ≡ map minus lanes → Placed lanes first second → Both (swz_l w8 16 above 0 (chunk 0 16 (get_or ORDERS (16 * first + second) []))) lanes first second
+both_placed lanes above first second long is p =
+    let h = halves [] above first second (ap length is ∙ length-map lanes minus ∙ long) p.few.0 p.few.1 p.few.2 p.few.3 p.within in
+    both lanes above _ first second is (omega (arith, p.run)) (omega (arith, p.more)) h.left h.right
 
 -- Two integers at a place of a text, by those among its next bytes.
 

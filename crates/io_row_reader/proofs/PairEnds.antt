@@ -3,7 +3,7 @@ use Rattle.std.proofs.Common.{◌≡◌, ℕ, suc, ◌+◌, ◌-◌, ◌*◌, �
 use Rattle.std.specs.List.{prefix_len}
 use Rattle.std.proofs.lemmas.Bool.{agree_below, agree_below_at}
 use Rattle.std.proofs.lemmas.Nat.{and_block, and_le_l}
-use Rattle.std.proofs.lemmas.Simd.{mask_l-lt, trailing_mask_l}
+use Rattle.std.proofs.lemmas.Simd.{leading_from_mask_l, mask_l-lt, trailing_mask_l}
 use Rattle.std.proofs.lemmas.List.{drop-drop, length-map}
 use lib.Lanes.{Each1, mask_l, top}
 use lib.Bits.{and_self}
@@ -94,7 +94,12 @@ pub record Ends (lanes : List ℕ) (marks later : ℕ) : Type 0 where
   pub second : count_trailing_zeros 64 later ≡ count_trailing_zeros 64 marks + 1 + prefix_len is_digit (drop (count_trailing_zeros 64 marks + 1) lanes)
   pub within : count_trailing_zeros 64 later < 16
 
-trailing_is : (xs : List ℕ) (m : ℕ) → length xs ≡ 16 → m ≡ mask_l (map other xs) → 0 < m → count_trailing_zeros 64 m ≡ prefix_len is_digit xs
+-- where no byte is another
+pub none_other : (xs : List ℕ) (m : ℕ) → length xs ≡ 16 → m ≡ mask_l (map other xs) → m ≡ 0 → 16 ≡ prefix_len is_digit xs
+none_other xs m long is none = sym long ∙ sym (leading_from_mask_l other xs (sym is ∙ none)) ∙ run_is xs
+
+-- where the first other byte is
+pub trailing_is : (xs : List ℕ) (m : ℕ) → length xs ≡ 16 → m ≡ mask_l (map other xs) → 0 < m → count_trailing_zeros 64 m ≡ prefix_len is_digit xs
 trailing_is xs m long is some = ap (count_trailing_zeros 64) is ∙ trailing_mask_l other 64 xs (omega (arith, long)) (omega (arith, is, some)) ∙ run_is xs
 
 pub two_ends : (lanes : List ℕ) (marks : ℕ) → length lanes ≡ 16 → marks ≡ mask_l (map other lanes) → 0 < bit_and marks ((marks + 18446744073709551615) % 18446744073709551616)

@@ -1,5 +1,5 @@
 -- What the rows of the table of orders do to a vector.
-use Rattle.std.proofs.Common.{◌≡◌, ℕ, ◌+◌, ◌-◌, ◌*◌, ◌/◌, ◌%◌, ◌<◌, ◌≤◌, ◌||◌, ◌&&◌, nat_eq, nat_lt, not, IsTrue, Bool, true, w8, List, [], ◌++◌, length, map, take, drop, replicate, get_or, refl, subst, arith}
+use Rattle.std.proofs.Common.{◌≡◌, ℕ, ◌+◌, ◌-◌, ◌*◌, ◌/◌, ◌%◌, ◌<◌, ◌≤◌, ◌||◌, ◌&&◌, nat_eq, nat_lt, Bool, true, w8, List, [], ◌++◌, length, map, take, drop, replicate, get_or, refl, subst, arith}
 use Rattle.std.specs.List.{range_with_len}
 use Rattle.std.proofs.lemmas.Bool.{agree_below, agree_below_at}
 use Rattle.std.proofs.lemmas.Bool.Decides.{nat_tests}
@@ -255,7 +255,7 @@ halves none xs first second long some few more near within =
     (each (λ front. Each (Row none f front) (many front)) 8 (first - 1) (rows none f) (omega (arith, some, few))) (omega (arith, some, few, more, near, within))))) xs long
 
 -- where the row of a table does not end with 0, few bytes stand before both places
-pub short_before : (first second : ℕ) → first < 16 → second < 16 → IsTrue (not (nat_eq (get_or (get_or ORDERS (16 * first + second) []) 15 0) 0)) → (0 < first) × (first ≤ 8) × (first + 1 < second) × (second ≤ first + 9)
+pub short_before : (first second : ℕ) → first < 16 → second < 16 → 0 < get_or (get_or ORDERS (16 * first + second) []) 15 0 → (0 < first) × (first ≤ 8) × (first + 1 < second) × (second ≤ first + 9)
 unfolding tells
 short_before first second one two other =
     let k = 16 * first + second in
@@ -266,7 +266,7 @@ short_before first second one two other =
     told : (k : ℕ) → k < 256 → tells k ≡ true
     told k lt = agree_below_at tells (λ k. true) 256 k all_tell lt
 
-    not_zero : (n : ℕ) (b : Bool) → IsTrue (not (nat_eq n 0)) → (nat_eq n 0 || b) ≡ true → b ≡ true
+    not_zero : (n : ℕ) (b : Bool) → 0 < n → (nat_eq n 0 || b) ≡ true → b ≡ true
     not_zero n b h e = grind (arith, nat_tests)
 
     within : (a b first second : ℕ) → a ≡ first → b ≡ second → (nat_lt 0 a && (nat_lt a 9 && (nat_lt (a + 1) b && nat_lt b (a + 10)))) ≡ true → (0 < first) × (first ≤ 8) × (first + 1 < second) × (second ≤ first + 9)

@@ -1,19 +1,17 @@
 -- Fields without blanks.
-use Rattle.std.proofs.Common.{◌≡◌, ℕ, zero, suc, ◌+◌, ◌-◌, ◌<◌, ◌≤◌, Bool, true, false, cond, ◌||◌, ◌==◌, List, [], ◌∷◌, ◌++◌, length, take, drop, get_or, append-nil, append_assoc, ◌&&◌, lt-ltb, ltb-true, lit<, ◌*◌, nat_lt, pos, ◌^◌, Some, None, Option, ℤ, refl, ap, sym, ◌∙◌, subst, IsTrue, nat_eq, MatchOption, arith}
+use Rattle.std.proofs.Common.{◌≡◌, ℕ, to_z, of_z, w64, ◌-ℤ◌, zero, suc, ◌+◌, ◌-◌, ◌<◌, ◌≤◌, Bool, true, false, cond, ◌||◌, ◌==◌, List, [], ◌∷◌, ◌++◌, length, take, drop, get_or, append-nil, append_assoc, lt-ltb, lit<, ◌*◌, nat_lt, pos, ◌^◌, Some, None, Option, ℤ, refl, ap, sym, ◌∙◌, subst, arith}
 use Rattle.std.specs.Prelude.{neg_ℤ}
-use Rattle.std.specs.List.{list_all, prefix_len, slice_split, before_first}
+use Rattle.std.proofs.lemmas.Int.{ints, to_z_pos}
+use Rattle.std.specs.List.{prefix_len, slice_split, before_first}
 use Rattle.std.proofs.Math.Nat.{pow-le-pow_right}
-use Rattle.std.proofs.lemmas.List.{take-append-drop, drop-drop, length-drop, take_more, length-append, take_all}
-use Rattle.std.proofs.lemmas.List.Sums.{prefix_len-le-length, prefix_len-drop_all, prefix_len-drop_no}
-use Rattle.std.proofs.lemmas.List.Folds.{list_all-append}
+use Rattle.std.proofs.lemmas.List.{drop-drop, take_more, length-append}
 use Rattle.std.proofs.lemmas.Bool.Decides.{nat_tests}
 use Rattle.sql_text.specs.Blank.{is_blank, without_blanks_before, trimmed}
 use Rattle.sql_text.specs.Word.{is_digit}
 use Rattle.sql_text.specs.Value.{amount, amount_after, integer_len, is_negative, sign_len, signed, value_of}
-use Rattle.sql_text.proofs.Fronts.{and_both, all_weaker}
 use Rattle.sql_text.proofs.LeadingValue.{value_behind, zero_add}
 use Rattle.sql_text.proofs.ParsedValue.{fits_neg}
-use Rattle.sql_text.proofs.Trimmed.{is_solid, leading_solid, behind_integer}
+use Rattle.sql_text.proofs.Trimmed.{is_solid, behind_integer}
 use Rattle.std.specs.Option.{option_and_then, option_map}
 use Rattle.std.specs.declared.result.Result.TheVariants.{Ok, Err}
 use Rattle.sql_catalog.specs.Rows.{is_comma, entry, entry_of, row_with, values_of}
@@ -22,7 +20,7 @@ use Rattle.sql_catalog.proofs.ColumnDomains.{each_within}
 use Rattle.sql_catalog.specs.declared.column.ColumnDef.{ColumnDef}
 use Rattle.sql_catalog.specs.declared.row_error.RowError.TheVariants.{Arity, Domain}
 use Rattle.sql_catalog.proofs.Fields.{field_parts, field_value}
-use Rattle.io_row_reader.specs.Plain.{AddsInteger, is_plain_byte, IsPlain}
+use Rattle.io_row_reader.specs.Plain.{AddsInteger, is_plain_byte}
 
 pub solid_plain : (b : ℕ) → is_solid b ≡ true → is_plain_byte b ≡ true
 solid_plain b h = grind (arith, nat_tests)
@@ -78,14 +76,6 @@ field_then text others v e behind = field_before text [] v (slice_split is_comma
 pub field_last : (text : List ℕ) (v : ℤ) → value_of (take (integer_len text) text) ≡ Some v → drop (integer_len text) text ≡ [] → IsFieldBefore text v []
 field_last text v e behind = field_before text [] v [] e (ap (λ t. slice_split is_comma (without_blanks_before t)) behind) refl
 
--- an integer is plain, and so is a text of one and plain bytes
-pub plain_behind : (text behind : List ℕ) → drop (integer_len text) text ≡ behind → IsPlain behind → IsPlain text
-plain_behind text behind e h =
-    let front = take (integer_len text) text in
-    ap (list_all is_plain_byte) (sym (take-append-drop (integer_len text) text))
-    ∙ list_all-append is_plain_byte front (drop (integer_len text) text)
-    ∙ and_both (list_all is_plain_byte front) (list_all is_plain_byte (drop (integer_len text) text)) (all_weaker is_solid is_plain_byte solid_plain front (leading_solid text)) (ap (list_all is_plain_byte) e ∙ h)
-
 -- the values of a text, where those of what is left of it begin with this one
 pub told_more : (fields rest : List ℕ) (v : ℤ) (others : List (List ℕ)) (row : List ℤ) → IsFieldBefore rest v others
     → values_of (slice_split is_comma fields) ≡ option_map (λ vs. row ++ vs) (values_of (slice_split is_comma rest))
@@ -119,45 +109,9 @@ whole_row stream columns fields row told count within =
     ∙ ap (entry_of stream columns) told
     ∙ ap (λ b. cond b (Ok (entry stream row)) (Err Domain)) within
 
--- a text that begins with a byte
-pub first_rest : (bytes : List ℕ) (b : ℕ) → 1 ≤ length bytes → get_or bytes 0 0 ≡ b → bytes ≡ b ∷ take (length bytes - 1) (drop 1 bytes)
-first_rest [] b some e = absurd (omega (arith, some))
-first_rest (x ∷ xs) b some e = ap (λ y. y ∷ xs) e ∙ ap (λ ys. b ∷ ys) (sym (take_all (length (x ∷ xs) - 1) xs (omega arith)))
-
-pub none : (n : ℕ) → n < 1 → n ≡ 0
-none n h = omega (arith, h)
-
-pub equal : (n m : ℕ) → IsTrue (nat_eq n m) → n ≡ m
-equal n m h = grind (arith, nat_tests)
-
-pub plain_comma : (text : List ℕ) → IsPlain text → IsPlain (44 ∷ text)
-plain_comma text h = h
-
--- a value that was added
-pub record IsAdded (o : Option ℤ) (row new : List ℤ) : Type 0 where
-  pub value : ℤ
-  pub is : o ≡ Some value
-  pub pushed : new ≡ row ++ value ∷ []
-
-pub added : (o : Option ℤ) (told : Bool) (row new : List ℤ) → MatchOption o (told ≡ false) (λ v. new ≡ row ++ v ∷ []) → told ≡ true → IsAdded o row new
-added None told row new h t = absurd (clash (sym t ∙ h))
-added (Some v) told row new h t = record { value = v; is = refl; pushed = h }
-
 -- values that lie in the domains of the columns of a stream
 pub domains_kept : (streams : List Shape) (stream : ℕ) (values : List ℤ) → lie_within (shape_at streams stream).columns values ≡ true → KeepsDomains streams stream values
 domains_kept streams stream values within column = each_within (shape_at streams stream).columns values within column
-
-integer_short : (text : List ℕ) → integer_len text ≤ length text
-integer_short [] = omega arith
-integer_short (b ∷ bs) = by ((b == 45) || (b == 43))
-  where
-    by : (s : Bool) → cond s 1 0 + prefix_len is_digit (drop (cond s 1 0) (b ∷ bs)) ≤ length (b ∷ bs)
-    by true = omega (arith, prefix_len-le-length is_digit bs)
-    by false = omega (arith, prefix_len-le-length is_digit (b ∷ bs))
-
--- the length of an integer, by that of what stands behind it
-pub integer_before : (text behind : List ℕ) → behind ≡ drop (integer_len text) text → length text - length behind ≡ integer_len text
-integer_before text behind e = omega (arith, ap length e, length-drop (integer_len text) text, integer_short text)
 
 digit_no_sign : (b : ℕ) → is_digit b ≡ true → ((b == 45) ≡ false) × ((b == 43) ≡ false)
 digit_no_sign b h = (grind (arith, nat_tests), grind (arith, nat_tests))
@@ -221,17 +175,15 @@ negative_integer text digits len amounts old new begins is some all small pushed
       pushed = pushed;
     })
 
--- an integer that was read and added
-pub any_integer : (text behind : List ℕ) (o : Option ℤ) (told : Bool) (old new : List ℤ) → o ≡ value_of (take (integer_len text) text) → behind ≡ drop (integer_len text) text
-    → MatchOption o (told ≡ false) (λ v. new ≡ old ++ v ∷ []) → told ≡ true → AddsInteger text (length text - length behind) old new
-any_integer text behind o told old new value rest adds t =
-    let a = added o told old new adds t in
-    record {
-      value = a.value;
-      size = integer_before text behind rest;
-      is = sym value ∙ a.is;
-      pushed = a.pushed;
-    }
+-- an amount of less than 64 bits that was added as an integer
+pub amount_pushed : (n : ℕ) (old new : List ℤ) → n < 2 ^ 63 → new ≡ old ++ to_z w64 n ∷ [] → new ≡ old ++ pos n ∷ []
+amount_pushed n old new small pushed = pushed ∙ ap (λ v. old ++ v ∷ []) (to_z_pos w64 n small)
+
+-- the opposite of such an amount
+pub opposite_pushed : (n : ℕ) (old new : List ℤ) → n < 2 ^ 63 → new ≡ old ++ to_z w64 (of_z w64 (pos 0 -ℤ to_z w64 n)) ∷ [] → new ≡ old ++ neg_ℤ (pos n) ∷ []
+opposite_pushed n old new small pushed =
+    let is : to_z w64 (of_z w64 (pos 0 -ℤ to_z w64 n)) ≡ neg_ℤ (pos n) = omega (arith, ints, small) in
+    pushed ∙ ap (λ v. old ++ v ∷ []) is
 
 amount_push : (start : ℕ) (ds : List ℕ) (d : ℕ) → amount_after start (ds ++ d ∷ []) ≡ amount_after start ds * 10 + (d - 48)
 amount_push start [] d = refl
@@ -246,14 +198,3 @@ amount_next text i kept d room is all =
 -- an amount of at most 18 digits
 pub within_18 : (kept i : ℕ) → kept < 10 ^ i → i ≤ 18 → kept < 10 ^ 18
 within_18 kept i h few = let pow : 10 ^ i ≤ 10 ^ 18 = pow-le-pow_right (lit< tt) few in omega (arith, h, pow)
-
-no_place : (text : List ℕ) (n : ℕ) → nat_lt n (length text) ≡ false → length text ≤ n
-no_place text n h = grind (arith, nat_tests)
-
--- digits behind which none stands
-pub digits_end : (text : List ℕ) (n : ℕ) → (nat_lt n (length text) && is_digit (get_or text n 0)) ≡ false → prefix_len is_digit (drop n text) ≡ 0
-digits_end text n h = by (nat_lt n (length text)) refl
-  where
-    by : (o : Bool) → nat_lt n (length text) ≡ o → prefix_len is_digit (drop n text) ≡ 0
-    by true e = prefix_len-drop_no is_digit text n 0 (ltb-true _ _ e) (sym (ap (λ t. t && is_digit (get_or text n 0)) e) ∙ h)
-    by false e = prefix_len-drop_all is_digit text n (no_place text n e)

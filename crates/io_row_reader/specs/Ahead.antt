@@ -27,11 +27,6 @@ pub record AddsAt (text : List ℕ) (start end : ℕ) (old new : List ℤ) : Typ
   pub within : end < length text
   pub adds : AddsInteger (drop start text) len old new
 
--- an integer stands between two places of a text, or two with a comma between them, and what stands there is added to a row
-pub data AddsNext (text : List ℕ) (start end : ℕ) (old new : List ℤ) : Type 0 where
-  one : AddsAt text start end old new → AddsNext text start end old new
-  two : (comma : ℕ) → (between : List ℤ) → AddsAt text start comma old between → slice_index text comma ≡ 44 → AddsAt text (comma + 1) end between new → AddsNext text start end old new
-
 -- integers of at most 24 bytes with a comma between each and the next stand between two places of a text, and these are their values
 pub record AreFields (text : List ℕ) (start end : ℕ) (row : List ℤ) : Type 0 where
   pub values : values_of (slice_split is_comma (slice_range text start end)) ≡ Some row

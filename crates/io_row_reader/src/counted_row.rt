@@ -1,17 +1,14 @@
 //! Rows that are only counted, since nobody asks for their values and no column of their stream has a domain. Their values are not formed.
-ghost use Rattle.std.specs.Prelude.{◌≡◌, ℤ, List, ◌+◌, ◌≤◌, ◌<◌, length, drop, true, IfSome, IsTrue};
-ghost use Rattle.std.specs.List.{All, prefix_len};
-ghost use Rattle.sql_catalog.specs.Streams.{HasEnds, lie_within};
+ghost use Rattle.std.specs.Prelude.{◌≡◌, ◌+◌, ◌<◌, length, drop, IfSome};
+ghost use Rattle.std.specs.List.{prefix_len};
 ghost use Rattle.sql_text.specs.Word.{is_digit};
 ghost use Rattle.io_row_reader.specs.Ahead.{BeginsStream, IsEnded};
 ghost use Rattle.io_row_reader.specs.Counted.{HasFields, IsSomeInteger, IsSomeRowOf};
 
-use crate::fast_row::above_zero;
 use crate::indexed_catalog::IndexedCatalog;
-use crate::lanes::{LANES, digits_ahead, lanes_from};
-use crate::pairs::marks_of;
+use crate::lanes::{LANES, digits_ahead, marks_of};
 use crate::row_ahead::{are_short, line_len};
-use sql_catalog::Columns;
+use std::simd::prelude::*;
 
 // Where the digits from a place of a text on end. Two are looked at in a turn, which is one step of the place for both.
 fn digits_end(text: &[u8], start: usize) -> usize
@@ -22,49 +19,42 @@ fn digits_end(text: &[u8], start: usize) -> usize
 {
     let mut place = start;
     'digits: loop {
-        if 9 < above_zero(text[place]) {
+        if !text[place].is_ascii_digit() {
             return place;
         }
-        if 9 < above_zero(text[place + 1]) {
+        if !text[place + 1].is_ascii_digit() {
             return place + 1;
         }
         place += 2;
     }
 }
 
-// The place behind the integer at a place of a text, where it is a minus and at most 18 digits.
-#[tactic(auto, using(crate::proofs::NamesAhead::behind_minus))]
-fn negative_end(text: &[u8], start: usize) -> Option<usize>
-    requires ended { IsEnded text.now }
-    requires here { start < length text.now }
-    ensures { IfSome result (λ end. IsSomeInteger text.now start end) }
-{
-    if text[start] != b'-' {
-        return None;
-    }
-    if let Some(digits) = digits_ahead(text, start + 1) {
-        return Some(start + 1 + digits);
-    }
-    let end = digits_end(text, start + 1);
-    if !are_short(end - start - 1) {
-        return None;
-    }
-    Some(end)
-}
-
 // What `integer_end` gives, whatever stands at the place. It is not inlined, so that few digits pay nothing for it.
 #[cold]
 #[inline(never)]
+#[tactic(auto, using(crate::proofs::NamesAhead::behind_minus))]
 fn any_integer_end(text: &[u8], start: usize) -> Option<usize>
     requires ended { IsEnded text.now }
     requires here { start < length text.now }
     ensures { IfSome result (λ end. IsSomeInteger text.now start end) }
 {
-    let end = digits_end(text, start);
-    if !are_short(end - start) {
-        return negative_end(text, start);
+    if text[start] != b'-' {
+        let end = digits_end(text, start);
+        return if are_short(end - start) {
+            Some(end)
+        } else {
+            None
+        };
     }
-    Some(end)
+    if let Some(digits) = digits_ahead(text, start + 1) {
+        return Some(start + 1 + digits);
+    }
+    let end = digits_end(text, start + 1);
+    if are_short(end - start - 1) {
+        Some(end)
+    } else {
+        None
+    }
 }
 
 // The place behind the integer at a place of a text, where it is at most 18 digits, with a minus or no sign before them.
@@ -114,7 +104,7 @@ fn fields_end(width: usize, text: &[u8], start: usize) -> Option<usize>
     if text.len() - start < LANES {
         return any_fields_end(width, text, start);
     }
-    let mut marks = marks_of(lanes_from(text, start));
+    let mut marks = marks_of(u8x16::from_slice(&text[start..]));
     let mut place = 0;
     let mut read = 0;
     'fields: while read < width {
@@ -139,18 +129,6 @@ fn fields_end(width: usize, text: &[u8], start: usize) -> Option<usize>
     None
 }
 
-// The least integer of 64 bits, for each column.
-const LEAST: [i64; 8] = [i64::MIN; 8];
-
-// Whether no column has a domain. The least integer of 64 bits lies in none, since the ends of a domain have at most 15 digits.
-pub(crate) fn have_no_domain(columns: &Columns) -> bool
-    requires few { length columns.now ≤ 8 }
-    requires domains { All (λ c. HasEnds c.domain) columns.now }
-    ensures { IsTrue result → (values : List ℤ) → length values ≡ length columns.now → lie_within columns.now values ≡ true }
-{
-    columns.keep(&LEAST[..columns.as_slice().len()])
-}
-
 /// Returns the length of the first line of a text, where that line is a row of a stream of which no column has a domain, written without
 /// blanks and plus signs, with at most 18 digits a value. The text begins with the name of the stream and a comma, and `start` is the place
 /// behind these. One CR may stand at the line's end. The last byte of the text is LF, and is not the one that ends the line.
@@ -160,10 +138,11 @@ pub fn counted_len(streams: &IndexedCatalog, stream: u8, text: &[u8], start: usi
     requires ended { IsEnded text.now }
     ensures { IfSome result (λ len. IsSomeRowOf streams.now.streams text.now stream len) }
 {
-    if !streams.is_free(stream) {
+    let noted = streams.noted(stream);
+    if !noted.is_free {
         return None;
     }
-    let Some(end) = fields_end(streams.width(stream), text, start) else {
+    let Some(end) = fields_end(usize::from(noted.width), text, start) else {
         return None;
     };
     let Some(len) = line_len(text, end) else {

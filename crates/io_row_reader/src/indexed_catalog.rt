@@ -1,15 +1,15 @@
 //! The streams, with what each row asks of its stream kept beside them.
-ghost use Rattle.std.specs.Prelude.{◌≡◌, ℤ, ◌+◌, ◌*◌, ◌≤◌, ◌<◌, List, [], ◌∷◌, length, true, None, IfOk, IfSome, IsTrue};
+ghost use Rattle.std.specs.Prelude.{◌≡◌, ◌≤◌, ◌<◌, [], length, None, IfOk, IfSome, IsTrue};
 ghost use Rattle.std.specs.List.{All};
-ghost use Rattle.sql_catalog.specs.Streams.{HasEnds, added, with_stream, shape_at, lie_within};
+ghost use Rattle.sql_catalog.specs.Streams.{HasEnds, added, with_stream, shape_at};
 ghost use Rattle.io_row_reader.specs.Ahead.{BeginsStream, IsEnded};
-ghost use Rattle.io_row_reader.specs.Indexed.{LeadToOpen};
+ghost use Rattle.io_row_reader.specs.Indexed.{IsNoted, LeadToOpen};
 ghost use Rattle.io_row_reader.specs.Open.{is_open};
 
+use crate::noted_stream::NotedStream;
 use crate::open_streams::OpenStreams;
-use crate::row_ahead::other_stream_ahead;
+use crate::row_ahead::{later_stream_ahead, named_len};
 use crate::starts::Starts;
-use crate::stream_tables::StreamTables;
 use sql_catalog::{Catalog, ColumnDef, StreamError};
 use sql_text::Name;
 use std::alloc::{AllocError, Global};
@@ -21,7 +21,7 @@ use std::marker::Model;
 pub struct IndexedCatalog {
     catalog: Catalog,
     starts: Starts,
-    tables: StreamTables,
+    noted: [NotedStream; 16],
     opened: OpenStreams,
 }
 
@@ -32,7 +32,7 @@ impl Model for IndexedCatalog {
 
     ghost view = { λ c. record { streams = c.catalog; opened = c.opened } };
 
-    ghost invariant = { λ c. IsIndexed c.tables c.catalog × LeadToOpen c.starts c.opened };
+    ghost invariant = { λ c. IsIndexed c.noted c.catalog × LeadToOpen c.starts c.opened };
 }
 
 // The hints that lead to the open streams alone.
@@ -55,7 +55,7 @@ impl IndexedCatalog {
         Ok(IndexedCatalog {
             catalog: Catalog::new(alloc)?,
             starts: Starts::new(),
-            tables: StreamTables::new(),
+            noted: [NotedStream::none(); 16],
             opened: OpenStreams::all(),
         })
     }
@@ -81,9 +81,9 @@ impl IndexedCatalog {
         match self.catalog.add_stream(name, columns) {
             Ok(number) => {
                 self.starts.add(&name, number, &self.opened);
-                self.tables.note(&self.catalog, number);
                 // No effect at run time. The proof reads from this call that there are at most 16 streams.
                 let _few = self.catalog.len();
+                self.noted[usize::from(number)] = NotedStream::of(&self.catalog, number);
                 Ok(number)
             }
             Err(error) => Err(error),
@@ -98,29 +98,6 @@ impl IndexedCatalog {
         self.opened = opened;
     }
 
-    /// Returns whether the stream of a number is open.
-    #[inline(always)]
-    pub(crate) fn is_open(&self, stream: u8) -> bool
-        ensures { result ≡ is_open self.now.opened stream }
-    {
-        self.opened.opens(stream)
-    }
-
-    // Whether a text begins with the name of a stream and a comma, where that name is one byte.
-    #[inline(always)]
-    fn begins_single(&self, stream: u8, text: &[u8]) -> bool
-        requires known { stream < length self.now.streams }
-        requires ended { IsEnded text.now }
-        ensures { IsTrue result → BeginsStream self.now.streams text.now stream 2 }
-    {
-        // No effect at run time. The proof reads from this call what holds of every name.
-        let _catalog = self.catalog.len();
-        if self.tables.singles[usize::from(stream)] != u16::from(text[0]) {
-            return false;
-        }
-        text[1] == b','
-    }
-
     /// Returns the number of the open stream with whose name and a comma a text begins, and where what stands behind that comma begins. It
     /// looks first at the first open stream whose name begins with the same byte, and at none where there is no such name.
     #[inline(always)]
@@ -129,51 +106,33 @@ impl IndexedCatalog {
         ensures begins { IfSome result (λ found. BeginsStream self.now.streams text.now found.0 found.1) }
         ensures opens { IfSome result (λ found. IsTrue (is_open self.now.opened found.0)) }
     {
-        let stream = self.starts.of(text[0]);
+        let first = text[0];
+        let stream = self.starts.numbers[usize::from(first)];
         if self.catalog.len() <= stream {
             return None;
         }
-        if self.begins_single(stream, text) {
+        // A name of one byte is told at once.
+        if self.noted[usize::from(stream)].single == u16::from(first) && text[1] == b',' {
             return Some((stream, 2));
         }
-        other_stream_ahead(self, stream, text)
+        if let Some(len) = named_len(text, self.catalog.stream_name(stream).bytes()) {
+            return Some((stream, len));
+        }
+        let Some(later) = later_stream_ahead(&self.catalog, stream, text) else {
+            return None;
+        };
+        if !self.opened.opens(later) {
+            return None;
+        }
+        Some((later, self.catalog.stream_name(later).bytes().len() + 1))
     }
 
-    /// Returns whether a line may begin with the name of an open stream.
+    /// Returns what is noted of a stream for its rows.
     #[inline(always)]
-    pub(crate) fn may_lead(&self, line: &[u8]) -> bool {
-        self.starts.may_lead(line, self.catalog.len())
-    }
-
-    /// Returns how many columns a stream has.
-    #[inline(always)]
-    pub(crate) fn width(&self, stream: u8) -> usize
+    pub(crate) fn noted(&self, stream: u8) -> &NotedStream
         requires { stream < length self.now.streams }
-        ensures width { result ≡ length (shape_at self.now.streams stream).columns }
-        ensures some { 0 < result }
-        ensures few { result ≤ 8 }
+        ensures { IsNoted result.now (shape_at self.now.streams stream) }
     {
-        // No effect at run time. The proof reads from this call that each stream has 1 to 8 columns.
-        let _catalog = self.catalog.len();
-        usize::from(self.tables.widths[usize::from(stream)])
-    }
-
-    /// Returns how many bytes of a text a row of a stream with integers of at most 15 digits takes at most, with the longest name, and with one
-    /// byte behind it.
-    #[inline(always)]
-    pub(crate) fn room(&self, stream: u8) -> usize
-        requires { stream < length self.now.streams }
-        ensures { result ≡ 16 * length (shape_at self.now.streams stream).columns + 27 }
-    {
-        usize::from(self.tables.rooms[usize::from(stream)])
-    }
-
-    /// Returns whether no column of a stream has a domain.
-    #[inline(always)]
-    pub(crate) fn is_free(&self, stream: u8) -> bool
-        requires { stream < length self.now.streams }
-        ensures { IsTrue result → (values : List ℤ) → length values ≡ length (shape_at self.now.streams stream).columns → lie_within (shape_at self.now.streams stream).columns values ≡ true }
-    {
-        self.tables.free[usize::from(stream)] == 1
+        &self.noted[usize::from(stream)]
     }
 }

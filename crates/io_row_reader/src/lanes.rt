@@ -1,7 +1,8 @@
 //! Digits of a text, looked at sixteen at a time.
-ghost use Rattle.std.specs.Prelude.{◌≡◌, ◌+◌, ◌-◌, ◌≤◌, ◌<◌, ◌^◌, ◌++◌, length, take, drop, replicate, slice_index, IfSome};
+ghost use Rattle.std.specs.Prelude.{◌≡◌, ◌+◌, ◌≤◌, ◌<◌, ◌^◌, length, map, not, take, drop, slice_index, IfSome};
 ghost use Rattle.std.specs.Int.Digits.{AllBelowBase, number_from_digits};
 ghost use Rattle.std.specs.List.{prefix_len};
+ghost use Rattle.std.specs.Simd.Lanes.{mask_l};
 ghost use Rattle.sql_text.specs.Value.{amount};
 ghost use Rattle.sql_text.specs.Word.{is_digit};
 
@@ -10,13 +11,14 @@ use std::simd::prelude::*;
 // How many bytes are looked at together.
 pub(crate) const LANES: usize = 16;
 
-// The bytes from a place of a text on.
+// A bit for each lane, the lowest for the first: whether another byte than a digit stands there.
 #[inline(always)]
-pub(crate) fn lanes_from(text: &[u8], start: usize) -> u8x16
-    requires { start + LANES ≤ length text.now }
-    ensures { result ≡ take 16 (drop start text.now) }
+pub(crate) fn marks_of(lanes: u8x16) -> u64
+    ensures { result ≡ mask_l (map (λ b. not (is_digit b)) lanes) }
 {
-    u8x16::from_slice(&text[start..])
+    (lanes - u8x16::splat(b'0'))
+        .simd_ge(u8x16::splat(10))
+        .to_bitmask()
 }
 
 // How many digits stand before the first byte that is none.
@@ -24,9 +26,7 @@ pub(crate) fn lanes_from(text: &[u8], start: usize) -> u8x16
 fn digits_in(lanes: u8x16) -> usize
     ensures { result ≡ prefix_len is_digit lanes }
 {
-    let others = (lanes - u8x16::splat(b'0'))
-        .simd_ge(u8x16::splat(10))
-        .to_bitmask();
+    let others = marks_of(lanes);
     if others == 0 {
         LANES
     } else {
@@ -50,30 +50,11 @@ pub(crate) fn numbers_of(digits: u8x16) -> [u64; 2]
     eights.to_array()
 }
 
-// The number that sixteen digits write.
-#[inline(always)]
-fn number_of(digits: u8x16) -> u64
-    requires { AllBelowBase 10 digits }
-    ensures { result ≡ number_from_digits 10 digits }
-{
-    let [first, second] = numbers_of(digits);
-    first.wrapping_mul(100_000_000).wrapping_add(second)
-}
-
 // The places of sixteen lanes, behind as many that stand for zero.
 static PLACES: [u8; 32] = [
     128, 128, 128, 128, 128, 128, 128, 128, 128, 128, 128, 128, 128, 128, 128, 128, 0, 1, 2, 3, 4,
     5, 6, 7, 8, 9, 10, 11, 12, 13, 14, 15,
 ];
-
-// The lanes in front, put behind zeros.
-#[inline(always)]
-fn behind_zeros(lanes: u8x16, len: usize) -> u8x16
-    requires { len ≤ 16 }
-    ensures { result ≡ replicate (16 - len) 0 ++ take len lanes }
-{
-    lanes.swizzle_dyn(u8x16::from_slice(&PLACES[len..]))
-}
 
 // The amount that so many digits write, which stand in front.
 #[inline(always)]
@@ -82,7 +63,9 @@ fn amount_of(lanes: u8x16, digits: usize) -> u64
     requires digits { digits ≤ prefix_len is_digit lanes }
     ensures { result ≡ amount (take digits lanes) }
 {
-    number_of(behind_zeros(lanes - u8x16::splat(b'0'), digits))
+    let places = u8x16::from_slice(&PLACES[digits..]);
+    let [first, second] = numbers_of((lanes - u8x16::splat(b'0')).swizzle_dyn(places));
+    first.wrapping_mul(100_000_000).wrapping_add(second)
 }
 
 /// Returns how many digits stand at a place of a text, where these are 1 to 15 and 16 bytes stand there.
@@ -97,7 +80,7 @@ pub(crate) fn digits_ahead(text: &[u8], start: usize) -> Option<usize>
     if text.len() - start < LANES {
         return None;
     }
-    let digits = digits_in(lanes_from(text, start));
+    let digits = digits_in(u8x16::from_slice(&text[start..]));
     if digits == 0 || digits == LANES {
         return None;
     }
@@ -115,29 +98,12 @@ pub(crate) fn short_amount_at(text: &[u8], start: usize) -> Option<(u64, usize)>
     ensures amount { IfSome result (λ found. found.0 ≡ amount (take found.1 (drop start text.now))) }
     ensures small { IfSome result (λ found. found.0 < 10 ^ 18) }
 {
-    let lanes = lanes_from(text, start);
+    let lanes = u8x16::from_slice(&text[start..]);
     let digits = digits_in(lanes);
     if 15 <= digits.wrapping_sub(1) {
         return None;
     }
     Some((amount_of(lanes, digits), digits))
-}
-
-/// Returns the same, or nothing where 16 bytes do not stand there.
-#[inline(always)]
-pub(crate) fn short_amount_ahead(text: &[u8], start: usize) -> Option<(u64, usize)>
-    requires { start < length text.now }
-    ensures digits { IfSome result (λ found. found.1 ≡ prefix_len is_digit (drop start text.now)) }
-    ensures some { IfSome result (λ found. 0 < found.1) }
-    ensures few { IfSome result (λ found. found.1 ≤ 15) }
-    ensures within { IfSome result (λ found. start + found.1 < length text.now) }
-    ensures amount { IfSome result (λ found. found.0 ≡ amount (take found.1 (drop start text.now))) }
-    ensures small { IfSome result (λ found. found.0 < 10 ^ 18) }
-{
-    if text.len() - start < LANES {
-        return None;
-    }
-    short_amount_at(text, start)
 }
 
 /// Returns the amount of the first 16 digits at a place of a text, and 16, where so many stand there, and a byte behind them; else nothing
@@ -153,7 +119,7 @@ pub(crate) fn first_digits(text: &[u8], start: usize) -> (u64, usize)
     if text.len() - start <= LANES {
         return (0, 0);
     }
-    let lanes = lanes_from(text, start);
+    let lanes = u8x16::from_slice(&text[start..]);
     if digits_in(lanes) < LANES {
         return (0, 0);
     }

@@ -1,24 +1,24 @@
 //! Rows as they mostly come, read straight from what a reader has ahead. The last byte of such a text is LF, so that names and digits end
 //! before it, and no place is compared with a length.
-ghost use Rattle.std.specs.Prelude.{◌≡◌, ℕ, true, slice_index, [], ◌+◌, ◌*◌, ◌≤◌, ◌<◌, ◌^◌, length, take, drop, false, IfSome, IsTrue, MatchOption};
+ghost use Rattle.std.specs.Prelude.{◌≡◌, ℕ, [], ◌+◌, ◌*◌, ◌≤◌, ◌<◌, ◌^◌, length, take, drop, false, IfSome, IsTrue, MatchOption};
 ghost use Rattle.std.specs.List.{prefix_len};
 ghost use Rattle.sql_catalog.specs.Rows.{IsNamed, is_named};
-ghost use Rattle.sql_catalog.specs.Streams.{IsName, lie_within, shape_at};
+ghost use Rattle.sql_catalog.specs.Streams.{IsName, shape_at};
 ghost use Rattle.sql_text.specs.Value.{amount};
 ghost use Rattle.sql_text.specs.Word.{is_digit};
-ghost use Rattle.io_row_reader.specs.Ahead.{AddsAt, AddsNext, AreFields, BeginsStream, EndsLine, FieldsTo, IsEnded, IsRowAhead};
+ghost use Rattle.io_row_reader.specs.Ahead.{AddsAt, AreFields, BeginsStream, EndsLine, FieldsTo, IsEnded, IsRowAhead};
 ghost use Rattle.io_row_reader.specs.Open.{is_open};
 ghost use Rattle.io_row_reader.specs.ReadFields.{ReadsFields};
 
-use crate::fast_row::{above_zero, add_amount, add_any, add_opposite, begins_integer};
 use crate::indexed_catalog::IndexedCatalog;
-use crate::lanes::{first_digits, short_amount_ahead, short_amount_at};
+use crate::lanes::{LANES, first_digits, short_amount_at};
 use crate::pairs::pair_at;
 use sem_query::Row;
 use sql_catalog::Catalog;
+use sql_text::leading_i64;
 
 // How many bytes a name and the comma behind it have, where a text begins with them.
-fn named_len(text: &[u8], name: &[u8]) -> Option<usize>
+pub(crate) fn named_len(text: &[u8], name: &[u8]) -> Option<usize>
     requires ended { IsEnded text.now }
     requires name { IsName name.now }
     ensures { MatchOption result (is_named name.now text.now ≡ false) (λ len. (len ≡ length name.now + 1) × (len < length text.now) × IsNamed name.now text.now (drop len text.now)) }
@@ -43,7 +43,7 @@ fn named_len(text: &[u8], name: &[u8]) -> Option<usize>
 // row of the first stream whose name begins so pays nothing for it.
 #[cold]
 #[inline(never)]
-fn later_stream_ahead(catalog: &Catalog, first: u8, text: &[u8]) -> Option<u8>
+pub(crate) fn later_stream_ahead(catalog: &Catalog, first: u8, text: &[u8]) -> Option<u8>
     requires { IsEnded text.now }
     ensures begins { IfSome result (λ stream. BeginsStream catalog.now text.now stream (length (shape_at catalog.now stream).name + 1)) }
     ensures inside { IfSome result (λ stream. stream < length catalog.now) }
@@ -57,45 +57,6 @@ fn later_stream_ahead(catalog: &Catalog, first: u8, text: &[u8]) -> Option<u8>
     None
 }
 
-// The number of the stream with whose name and a comma a text begins, where that is this number, which is open, or an open one above; and
-// where what stands behind that comma begins.
-#[inline(always)]
-pub(crate) fn other_stream_ahead(
-    streams: &IndexedCatalog,
-    first: u8,
-    text: &[u8],
-) -> Option<(u8, usize)>
-    requires known { first < length streams.now.streams }
-    requires opened { IsTrue (is_open streams.now.opened first) }
-    requires ended { IsEnded text.now }
-    ensures begins { IfSome result (λ found. BeginsStream streams.now.streams text.now found.0 found.1) }
-    ensures opens { IfSome result (λ found. IsTrue (is_open streams.now.opened found.0)) }
-{
-    let catalog = streams.all();
-    // No effect at run time. The proof reads from this call that the names differ.
-    let _catalog = catalog.len();
-    let name = catalog.stream_name(first).bytes();
-    match named_len(text, name) {
-        Some(len) => Some((first, len)),
-        None => match later_stream_ahead(catalog, first, text) {
-            Some(later) => {
-                if !streams.is_open(later) {
-                    return None;
-                }
-                Some((later, catalog.stream_name(later).bytes().len() + 1))
-            }
-            None => None,
-        },
-    }
-}
-
-// The amount with one digit more behind it, where the amount has at most 18 digits.
-fn with_digit(amount: u64, digit: u64) -> u64
-    ensures { amount < 10 ^ 18 → digit ≤ 9 → result ≡ amount * 10 + digit }
-{
-    amount.wrapping_mul(10).wrapping_add(digit)
-}
-
 // What `digits_at` gives, digit by digit behind the first sixteen.
 fn all_digits_at(text: &[u8], start: usize) -> (u64, usize)
     requires ended { IsEnded text.now }
@@ -107,11 +68,11 @@ fn all_digits_at(text: &[u8], start: usize) -> (u64, usize)
 {
     let (mut amount, mut len) = first_digits(text, start);
     'digits: loop {
-        let digit = above_zero(text[start + len]);
-        if 9 < digit {
+        let byte = text[start + len];
+        if !byte.is_ascii_digit() {
             return (amount, len);
         }
-        amount = with_digit(amount, digit);
+        amount = amount.wrapping_mul(10).wrapping_add(u64::from(byte - b'0'));
         len += 1;
     }
 }
@@ -126,10 +87,12 @@ fn digits_at(text: &[u8], start: usize) -> (u64, usize)
     ensures amount { result.1 ≤ 19 → result.0 ≡ amount (take result.1 (drop start text.now)) }
     ensures small { result.1 ≤ 18 → result.0 < 10 ^ 18 }
 {
-    match short_amount_ahead(text, start) {
-        Some(found) => found,
-        None => all_digits_at(text, start),
+    if LANES <= text.len() - start {
+        if let Some(found) = short_amount_at(text, start) {
+            return found;
+        }
     }
+    all_digits_at(text, start)
 }
 
 // Whether so many digits are some and at most 18, so that their amount is an integer of 64 bits whatever they are.
@@ -154,31 +117,21 @@ fn add_any_at(row: &mut Row, text: &[u8], start: usize) -> Option<usize>
     requires here { start < length text.now }
     ensures { IfSome result (λ end. AddsAt text.now start end row.old.items row.new.items) }
 {
-    let len = add_any(row, text.split_at(start).1);
+    let rest = text.split_at(start).1;
+    let (value, behind) = leading_i64(rest);
+    let Some(value) = value else {
+        return None;
+    };
+    let len = rest.len() - behind.len();
     if len == 0 || 24 < len || text.len() - start <= len {
         return None;
     }
+    row.push(value);
     Some(start + len)
 }
 
-// The same, at once where at most 19 digits stand behind the minus that is at the place.
-#[tactic(auto, using(crate::proofs::NamesAhead::behind_minus))]
-fn add_negative_at(row: &mut Row, text: &[u8], start: usize) -> Option<usize>
-    requires room { length row.old.items < 8 }
-    requires ended { IsEnded text.now }
-    requires here { start < length text.now }
-    requires minus { slice_index text.now start ≡ 45 }
-    ensures { IfSome result (λ end. AddsAt text.now start end row.old.items row.new.items) }
-{
-    let (amount, digits) = digits_at(text, start + 1);
-    if !are_few(digits, amount) {
-        return add_any_at(row, text, start);
-    }
-    add_opposite(row, amount);
-    Some(start + 1 + digits)
-}
-
 // The same, at once where the integer has no plus and at most 19 digits.
+#[tactic(auto, using(crate::proofs::NamesAhead::behind_minus))]
 fn add_integer_at(row: &mut Row, text: &[u8], start: usize) -> Option<usize>
     requires room { length row.old.items < 8 }
     requires ended { IsEnded text.now }
@@ -186,17 +139,19 @@ fn add_integer_at(row: &mut Row, text: &[u8], start: usize) -> Option<usize>
     ensures { IfSome result (λ end. AddsAt text.now start end row.old.items row.new.items) }
 {
     if text[start] == b'-' {
-        return add_negative_at(row, text, start);
+        let (amount, digits) = digits_at(text, start + 1);
+        if are_few(digits, amount) {
+            row.push(-(amount as i64));
+            return Some(start + 1 + digits);
+        }
+    } else {
+        let (amount, digits) = digits_at(text, start);
+        if are_few(digits, amount) {
+            row.push(amount as i64);
+            return Some(start + digits);
+        }
     }
-    if text[start] == b'+' {
-        return add_any_at(row, text, start);
-    }
-    let (amount, digits) = digits_at(text, start);
-    if !are_few(digits, amount) {
-        return add_any_at(row, text, start);
-    }
-    add_amount(row, amount);
-    Some(start + digits)
+    add_any_at(row, text, start)
 }
 
 // Puts the integers between commas from a place of a text on behind the values of a row, where there are just so many with these, at most
@@ -223,32 +178,6 @@ fn read_other_fields_at(row: &mut Row, width: usize, text: &[u8], start: usize) 
     None
 }
 
-// Adds the integer at a place of a text to a row, with the next one where the row lacks two and these can be read together; and gives the
-// place behind. Where the integer is not one of 1 to 15 digits, the row stays.
-#[inline(always)]
-fn add_next_at(row: &mut Row, width: usize, text: &[u8], start: usize) -> Option<usize>
-    requires lacks { length row.old.items < width }
-    requires width { width ≤ 8 }
-    requires room { start + 16 ≤ length text.now }
-    ensures adds { MatchOption result (row.new.items ≡ row.old.items) (λ end. AddsNext text.now start end row.old.items row.new.items) }
-    ensures near { IfSome result (λ end. end + 1 + 16 * length row.old.items ≤ start + 16 * length row.new.items) }
-    ensures few { length row.new.items ≤ width }
-{
-    if row.len() + 1 < width {
-        if let Some(pair) = pair_at(text, start) {
-            add_amount(row, pair.amounts[0]);
-            add_amount(row, pair.amounts[1]);
-            return Some(start + pair.len);
-        }
-    }
-    let Some(found) = short_amount_at(text, start) else {
-        return None;
-    };
-    let (amount, digits) = found;
-    add_amount(row, amount);
-    Some(start + digits)
-}
-
 /// How far the fields of a row were read: all of them, with the place behind the last one; or those before a place at which no integer of
 /// 1 to 15 digits stands; or they are no such fields.
 #[derive(Clone, Copy)]
@@ -272,7 +201,20 @@ fn read_fields_at(row: &mut Row, width: usize, text: &[u8], start: usize) -> Fie
 {
     let mut place = start;
     'fields: loop {
-        let Some(end) = add_next_at(row, width, text, place) else {
+        // Two that follow one another are read together, where the row lacks two and these are short.
+        let pair = if row.len() + 1 < width {
+            pair_at(text, place)
+        } else {
+            None
+        };
+        let end = if let Some(pair) = pair {
+            row.push(pair.amounts[0] as i64);
+            row.push(pair.amounts[1] as i64);
+            place + pair.len
+        } else if let Some((amount, digits)) = short_amount_at(text, place) {
+            row.push(amount as i64);
+            place + digits
+        } else {
             return Fields::Before(place);
         };
         if row.len() == width {
@@ -316,7 +258,9 @@ fn read_rest_at(
     requires here { place < length text.now }
     ensures { IfSome result (λ len. (start : ℕ) → BeginsStream streams.now.streams text.now stream start → FieldsTo text.now start place row.old.items → IsRowAhead streams.now.streams text.now stream len row.new.items) }
 {
-    if !begins_integer(text[place]) {
+    // What begins with no sign and no digit is no integer, which is told at once.
+    let first = text[place];
+    if first != b'-' && first != b'+' && !first.is_ascii_digit() {
         return None;
     }
     let columns = streams.all().columns(stream);
@@ -333,19 +277,6 @@ fn read_rest_at(
         return None;
     }
     Some(len)
-}
-
-// Whether each value of a row lies in the domain of its column, where one of them has a domain.
-#[inline(always)]
-fn is_kept(streams: &IndexedCatalog, stream: u8, row: &Row) -> bool
-    requires known { stream < length streams.now.streams }
-    requires width { length row.now.items ≡ length (shape_at streams.now.streams stream).columns }
-    ensures { IsTrue result → lie_within (shape_at streams.now.streams stream).columns row.now.items ≡ true }
-{
-    if streams.is_free(stream) {
-        return true;
-    }
-    streams.all().columns(stream).keep(row.as_slice())
 }
 
 /// Puts the row of a stream that the first line of a text is into an empty `row`, and gives the length of the line, where the line is a row,
@@ -365,12 +296,13 @@ pub fn read_row_at(
     requires ended { IsEnded text.now }
     ensures { IfSome result (λ len. IsRowAhead streams.now.streams text.now stream len row.new.items) }
 {
-    if text.len() < streams.room(stream) {
+    let noted = streams.noted(stream);
+    if text.len() < usize::from(noted.room) {
         return read_rest_at(streams, stream, text, start, row);
     }
-    match read_fields_at(row, streams.width(stream), text, start) {
+    match read_fields_at(row, usize::from(noted.width), text, start) {
         Fields::All(end) => {
-            if !is_kept(streams, stream, row) {
+            if !noted.is_free && !streams.all().columns(stream).keep(row.as_slice()) {
                 return None;
             }
             line_len(text, end)

@@ -1,5 +1,5 @@
 //! Where to begin to look for the stream of a line.
-ghost use Rattle.std.specs.Prelude.{◌≡◌, List, ℕ, Option, slice_index};
+ghost use Rattle.std.specs.Prelude.{List, ℕ, Option};
 ghost use Rattle.io_row_reader.specs.Indexed.{LeadToOpen};
 
 use crate::open_streams::OpenStreams;
@@ -10,7 +10,7 @@ use sql_text::Name;
 /// not open.
 #[derive(Clone, Copy, Debug)]
 pub struct Starts {
-    numbers: [u8; 256],
+    pub(crate) numbers: [u8; 256],
 }
 
 impl Starts {
@@ -34,20 +34,5 @@ impl Starts {
             let place = usize::from(*first);
             self.numbers[place] = self.numbers[place].min(number);
         }
-    }
-
-    /// Returns whether a text may begin with the name of an open one of so many streams.
-    pub fn may_lead(&self, text: &[u8], streams: u8) -> bool {
-        match text {
-            [] => false,
-            [first, ..] => self.of(*first) < streams,
-        }
-    }
-
-    /// Returns the number of the stream that is to be looked at first for a line that begins with a byte.
-    pub fn of(&self, first: u8) -> u8
-        ensures { result ≡ slice_index self.now.numbers first }
-    {
-        self.numbers[usize::from(first)]
     }
 }

@@ -9,7 +9,7 @@ ghost use Rattle.lib_session.specs.Fed.{AnswersFront, AreWholeLines, Feeds};
 
 use crate::outcome::{Fed, FeedOutcome};
 use crate::replies::Replies;
-use cmd_session::{Front, LineOutcome, Session, front_ahead};
+use cmd_session::{Front, LineOutcome, Session};
 use exec_pool::Steps;
 use io_streams::Sink;
 use memchr::memchr_iter;
@@ -164,7 +164,7 @@ fn answer_front<O: Sink, L: Ledger>(
         return answer_alone(session, text, out, steps);
     }
     let mut row = Row::new();
-    match front_ahead(session, text, &mut row) {
+    match session.front_ahead(text, &mut row) {
         Front::Counted(rows) => {
             let line = answer_behind(session, text.split_at(rows.end).1, out, steps);
             FirstLine {

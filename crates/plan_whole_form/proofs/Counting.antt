@@ -129,8 +129,3 @@ sizes_end streams i size l e = e ∙ ap (λ xs. capped (sum_by box_size xs)) (ta
 
 pub cells_more : (streams : List WholeStream) (size : ℕ) → nat_eq (length streams) 1 ≡ false → size ≡ capped (sum_by box_size (dims_in streams)) → size ≡ capped (cells_with (dims_in streams))
 cells_more streams size n e = e ∙ ap (λ b. capped (cond b 0 (sum_by box_size (dims_in streams)))) (sym (ap (λ m. nat_eq m 1) (dims_length streams) ∙ n))
-
-pub no_place : (streams : List WholeStream) (place : ℕ) → length streams ≤ place → [] ≡ get_or (dims_in streams) place []
-no_place [] place l = refl
-no_place (s ∷ streams) zero l = absurd (omega (arith, l))
-no_place (s ∷ streams) (suc place) l = no_place streams place (omega (arith, l))

@@ -11,9 +11,9 @@ use Rattle.sql_text.specs.Key.{key_of}
 use Rattle.sql_text.specs.Name.{is_name}
 use Rattle.sql_text.proofs.Fronts.{StopsFor, and_left, and_right, and_both, front_stops}
 use Rattle.sql_text.proofs.LeadingValue.{flag}
-use Rattle.sql_catalog.specs.Rows.{HasStream, IsNamed, LacksStream, begins_comma, is_named}
+use Rattle.sql_catalog.specs.Rows.{HasStream, IsNamed, begins_comma, is_named}
 use Rattle.sql_catalog.specs.Streams.{IsName, Shape, shape_at}
-use Rattle.sql_catalog.proofs.NamedShapes.{number-found, number-none}
+use Rattle.sql_catalog.proofs.NamedShapes.{number-found}
 
 clash : true ≡ false → ⊥
 clash p = cc
@@ -86,12 +86,6 @@ front_of name text h =
       comma = ap (λ n. get_or text n 0) size ∙ at.1;
     }
 
-pub other_unnamed : (name text : List ℕ) → (get_or text (length name) 0 ≡ 44 → ⊥) → is_named name text ≡ false
-other_unnamed name text h = elim (flag (is_named name text)) [
-  | inl is ↦ absurd (h (front_of name text is).comma)
-  | inr plain ↦ plain
-]
-
 pub front_unnamed : (name text : List ℕ) → bytes_eq (take (length name) text) name ≡ false → is_named name text ≡ false
 front_unnamed name text h = elim (flag (is_named name text)) [
   | inl is ↦
@@ -116,8 +110,3 @@ stream_found streams text i name rest room is h before =
           (λ k lt. other_fails (begins_comma (behind_word text)) (bytes_eq (shape_at streams k).name (word_of text)) comma (before k lt)));
       behind = h.behind;
     }
-
--- a text that begins with no stream's name and a comma
-pub stream_lacking : (streams : List Shape) (text : List ℕ) (i : ℕ) → length streams ≤ i → ((k : ℕ) → k < i → is_named (shape_at streams k).name text ≡ false) → LacksStream streams text
-stream_lacking streams text i past before = λ comma.
-    sym (number-none streams (word_of text) i past (λ k lt. other_fails (begins_comma (behind_word text)) (bytes_eq (shape_at streams k).name (word_of text)) comma (before k lt)))

@@ -49,10 +49,6 @@ pub record HasStream (streams : List Shape) (text : List ℕ) (stream : ℕ) (fi
   pub number : stream_number streams (word_of text) ≡ Some stream
   pub behind : behind_word text ≡ 44 ∷ fields
 
--- no stream has the word of a text as its name, where a comma stands behind that word
-abbrev pub LacksStream : List Shape → List ℕ → Type 0
-LacksStream streams text = begins_comma (behind_word text) ≡ true → stream_number streams (word_of text) ≡ None
-
 -- the fields of a row: the parts between its commas, but for the first part, which has its stream's name
 abbrev pub fields_of : List ℕ → List (List ℕ)
 fields_of line = drop 1 (slice_split is_comma line)

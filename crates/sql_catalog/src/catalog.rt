@@ -1,18 +1,16 @@
 //! All streams.
-ghost use Rattle.std.specs.Prelude.{◌≡◌, ◌≤◌, ◌<◌, [], length, not, nat_lt, is_some, if◌then◌else◌, IfOk, IfSome, IsTrue, MatchOption};
+ghost use Rattle.std.specs.Prelude.{◌≡◌, ◌≤◌, ◌<◌, [], length, not, nat_lt, is_some, if◌then◌else◌, IfOk, IfSome, IsTrue};
 ghost use Rattle.std.specs.List.{All, list_any};
 ghost use Rattle.std.specs.Result.{result_map_both};
 ghost use Rattle.std.specs.Str.{bytes_eq};
 ghost use Rattle.sql_catalog.specs.Streams.{IsCatalog, IsName, HasEnds, KeepsDomains, stream_number, column_place, shape_at, column_at, domain_at, lie_within, added, with_stream};
-ghost use Rattle.sql_catalog.specs.Rows.{HasStream, LacksStream, entry, is_row_line, row_of};
+ghost use Rattle.sql_catalog.specs.Rows.{entry, is_row_line, row_of};
 ghost use Rattle.sql_catalog.specs.declared.row_error.RowError.TheVariants as errors;
 ghost use Rattle.sql_text.specs.Key as reserved;
 
 use crate::column::ColumnDef;
 use crate::columns::{Columns, checked, columns_differ, place_of_column};
-use crate::entries::{
-    add_entry, columns_at, has_name, name_at, place_at_front, place_of_bytes, place_of_name,
-};
+use crate::entries::{add_entry, columns_at, has_name, name_at, place_of_bytes, place_of_name};
 use crate::field::read_fields;
 use crate::row_error::RowError;
 use crate::row_line::split_fields;
@@ -113,16 +111,6 @@ impl Catalog {
     {
         let place = place_of_bytes(&self.streams, name)?;
         Some(place as u8)
-    }
-
-    /// Returns the number of the stream with whose name and a comma the text begins, and what stands behind that comma.
-    pub fn stream_at_front<'a>(&self, text: &'a [u8]) -> Option<(u8, &'a [u8])>
-        ensures front { MatchOption result (LacksStream self.now text.now) (λ found. HasStream self.now text.now found.0 found.1.now) }
-        ensures inside { IfSome result (λ found. found.0 < length self.now) }
-    {
-        let found = place_at_front(&self.streams, text)?;
-        let (place, rest) = found;
-        Some((place as u8, rest))
     }
 
     /// Returns the place of the column of this name, from 0, in the stream of this number.

@@ -1,9 +1,8 @@
 //! The streams as entries of a map from name to columns, whose clauses speak of the shapes that the entries are.
-ghost use Rattle.std.specs.Prelude.{◌≡◌, ◌<◌, ◌≤◌, ◌+◌, [], ◌∷◌, ◌++◌, false, IfSome, MatchOption};
+ghost use Rattle.std.specs.Prelude.{◌≡◌, ◌<◌, ◌≤◌, ◌+◌, [], ◌∷◌, ◌++◌, false, IfSome};
 ghost use Rattle.std.specs.List.{list_any};
 ghost use Rattle.std.specs.Str.{bytes_eq};
 ghost use Rattle.indexmap.specs.IndexMap.{index_map_len, spare};
-ghost use Rattle.sql_catalog.specs.Rows.{HasStream, IsNamed, LacksStream, is_named};
 ghost use Rattle.sql_catalog.specs.Streams.{IsName, shapes_of, shape_at, stream_number};
 
 use crate::columns::Columns;
@@ -50,38 +49,6 @@ pub fn place_of_bytes(streams: &IndexMap<Name, Columns>, name: &[u8]) -> Option<
     for place in 0..streams.len() {
         if *name_at(streams, place).bytes() == *name {
             return Some(place);
-        }
-    }
-    None
-}
-
-// What stands behind a name and a comma, where a text begins with them.
-fn behind_name<'a>(text: &'a [u8], name: &Name) -> Option<&'a [u8]>
-    ensures { MatchOption result (is_named name.now text.now ≡ false) (λ rest. IsNamed name.now text.now rest.now) }
-{
-    let bytes = name.bytes();
-    if text.len() <= bytes.len() || text[bytes.len()] != b',' {
-        return None;
-    }
-    let (front, behind) = text.split_at(bytes.len());
-    if *front == *bytes {
-        Some(behind.split_at(1).1)
-    } else {
-        None
-    }
-}
-
-/// Returns the place of the stream with whose name and a comma a text begins, and what stands behind that comma.
-pub fn place_at_front<'a>(
-    streams: &IndexMap<Name, Columns>,
-    text: &'a [u8],
-) -> Option<(usize, &'a [u8])>
-    ensures front { MatchOption result (LacksStream (shapes_of streams.now.entries) text.now) (λ found. HasStream (shapes_of streams.now.entries) text.now found.0 found.1.now) }
-    ensures inside { IfSome result (λ found. found.0 < index_map_len streams.now) }
-{
-    for place in 0..streams.len() {
-        if let Some(rest) = behind_name(text, name_at(streams, place)) {
-            return Some((place, rest));
         }
     }
     None

@@ -7,4 +7,3 @@ pub mod ParsedValue
 pub mod Trimmed
 pub mod WordLists
 pub mod Signs
-pub mod Repeats

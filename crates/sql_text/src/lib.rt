@@ -17,6 +17,6 @@ pub use blank::{is_blank, trim, trim_end, trim_start};
 pub use key::{Key, key_of};
 pub use line::cut;
 pub use name::Name;
-pub use tuple::{put_tuple, put_tuples};
+pub use tuple::put_tuple;
 pub use value::{leading_i64, read_i64};
 pub use word::{begins_word, is_letter, is_word, is_word_byte, split_word};

@@ -1,6 +1,5 @@
 //! The line of an answer.
-ghost use Rattle.std.specs.Prelude.{◌≡◌, ◌≤◌, ◌+◌, ◌++◌, [], ◌∷◌, drop, length, replicate};
-ghost use Rattle.std.specs.List.{flat_map};
+ghost use Rattle.std.specs.Prelude.{◌≡◌, ◌≤◌, ◌+◌, ◌++◌, [], ◌∷◌, drop, length};
 ghost use Rattle.std.specs.Fmt.{signed_decimal};
 ghost use Rattle.io_streams.specs.Sink.{Writes};
 ghost use Rattle.sql_text.specs.Tuple.{tuple_text, tuple_line};
@@ -95,29 +94,4 @@ pub fn put_tuple<O: Sink>(out: &mut O, name: &Name, values: &[i64]) -> Result<()
     let mut line = [0; MOST_BYTES];
     let start = put_line(&mut line, name, values);
     write_all(out, line.split_at(start).1)
-}
-
-/// Writes a tuple of at most 8 values so many times as `put_tuple` does. The line is made once.
-pub fn put_tuples<O: Sink>(
-    out: &mut O,
-    name: &Name,
-    values: &[i64],
-    times: u128,
-) -> Result<(), WriteFault>
-    requires { length values.now ≤ 8 }
-    ensures { Writes result (O.seen out.old) (O.seen out.new) (flat_map (tuple_line name.now) (replicate times values.now)) }
-{
-    if times == 1 {
-        return put_tuple(out, name, values);
-    }
-    let mut line = [0; MOST_BYTES];
-    let start = put_line(&mut line, name, values);
-    let text = line.split_at(start).1;
-    'times: for k in 0..times {
-        match write_all(out, text) {
-            Ok(()) => {}
-            Err(fault) => return Err(fault),
-        }
-    }
-    Ok(())
 }

@@ -1,4 +1,4 @@
-use Rattle.std.proofs.Common.{◌+◌, arith, sym, ap, ◌∙◌}
+use Rattle.std.proofs.Common.{arith}
 use Rattle.exec_answer_lines.proofs.Fronts.{put_front}
 use Rattle.exec_answer_lines.proofs.kept.put_short.Goals as goal
 

@@ -9,6 +9,6 @@ returns-clause-text c =
     let n = c.args.number in
     let rest = drop c.args.end c.args.line.now in
     c.put_below_thousand.ensures.text
-    ∙ ap (λ l. decimal (n / 1000) ++ l) c.put_three_before.ensures.text
+    ∙ ap (λ l. decimal (n / 1000) ++ l) c.put_below_thousand-start.ensures.digits
     ∙ sym (append_assoc (decimal (n / 1000)) (three_digits (n % 1000)) rest)
     ∙ ap (λ l. l ++ rest) (sym (decimal_more n c.requires.low c.requires.high))

@@ -8,6 +8,7 @@ use Rattle.exec_ranges.specs.Values.{value_in}
 use Rattle.exec_ranges.proofs.DimLaws.{dims-beside}
 use Rattle.exec_synopsis.specs.Narrowing.{narrow}
 use Rattle.exec_join.proofs.AlongLaws.{along-none, along-next, along-line, along-count, low-fits, wide-fits, far-fits, one-full}
+use Rattle.exec_join.proofs.BesideLaws.{no-links}
 use Rattle.exec_join.proofs.along.line_ahead.Goals as goal
 
 abbrev none : Dim
@@ -117,3 +118,6 @@ returns-clause-count c =
     let narrows : Dim → Dim = narrow at.arriving (length c.args.known.now) at.part.now.equal.items at.part.now.less.items (value_in at.pairs.now at.part.now at.arriving at.row.now c.args.known.now) in
     let beside = dims-beside at.pairs.now at.part.now at.arriving at.row.now (2 ^ 32) c.args.known.now (λ n. c.requires.laid) c.requires.other in
     along-count narrows full c.dims.dim-index c.dims.line c.dims.invariant (omega (arith, c.dims-test.false)) ∙ ap (λ (ds : List Dim). box_size (map narrows ds)) (whole ∙ sym beside)
+
+pub longer_line-requires-clause-free : goal.longer_line-requires-clause-free
+longer_line-requires-clause-free c = no-links _ _ c.as_slice.ensures.value c.is_empty.result c.is_empty.ensures c.if-not-is_empty.false

@@ -1,4 +1,4 @@
-use Rattle.std.proofs.Common.{◌≡◌, ℕ, ◌+◌, ◌*◌, ◌<◌, ◌≤◌, ◌⊎◌, inl, inr, Bool, true, false, List, [], length, map, refl, sym, ap, ◌∙◌, subst, arith, ℤ, if◌then◌else◌}
+use Rattle.std.proofs.Common.{◌≡◌, ℕ, ◌+◌, ◌*◌, ◌<◌, ◌≤◌, ◌⊎◌, inl, inr, List, [], length, map, sym, ap, ◌∙◌, subst, arith, ℤ}
 use Rattle.sem_query.specs.declared.cell.Cell.TheVariants.{Empty}
 use Rattle.sem_query.specs.declared.part.Pair.{Pair}
 use Rattle.sem_query.specs.declared.plan.Dim.{Dim}
@@ -16,8 +16,6 @@ use Rattle.exec_join.specs.Choosing.{setting, start, both}
 use Rattle.exec_join.specs.Costs.{tried_size, walk_reads}
 use Rattle.exec_join.specs.Joining.{Tells}
 use Rattle.exec_join.specs.Walk.{walk}
-use Rattle.exec_join.specs.declared.join.FirstLook.{FirstLook}
-use Rattle.exec_join.specs.declared.join.FirstLook.TheVariants as look
 use Rattle.exec_ranges.specs.Lined.{AreFixed}
 use Rattle.exec_synopsis.specs.Premises.{IsReady}
 use Rattle.exec_ranges.specs.Narrowed.{narrowed_dims}
@@ -37,13 +35,6 @@ seen-last q part pool e pos row seen within ready same empty =
     let there = last-there pos (length part.streams.items) (omega (arith, empty.0)) here in
     nothing-beside q part pos row (read_from (cells_of pool e)) walked here (last_beside (length part.streams.items) pos) there.0 there.1
     (subst (λ (r : List ℤ). IsEmptyBeside part (read_from (cells_of pool e)) pos r (last_beside (length part.streams.items) pos)) same empty.1)
-
-told-nothing : (seen : Bool) (told : FirstLook) (tuple : List ℤ) (finds : List Found) → told ≡ (if seen then look.Nothing else look.Unknown) → (seen ≡ true → finds ≡ []) → Tells told tuple finds
-told-nothing seen told tuple finds e none = subst (λ (t : FirstLook). Tells t tuple finds) (sym e) (by seen none)
-  where
-    by : (s : Bool) → (s ≡ true → finds ≡ []) → Tells (if s then look.Nothing else look.Unknown) tuple finds
-    by true h = h refl
-    by false h = tt
 
 -- a walk may follow what reads no more than the share
 room-for-more : (q : QueryValue) (part : PartPlan) (pool : PoolValue) (e : Extent) (pos before : ℕ) → pos < length q.from → IsReady q part pool e → length part.streams.items ≤ 3
@@ -104,10 +95,9 @@ same-fixed : (ps sp : List Pair) (part : PartPlan) (pos : ℕ) (row seen : List 
     → AreFixed part (length (start pos)) (narrowed_dims sp part pos seen (start pos)) fixed first → AreFixed part (length (start pos)) (narrowed_dims ps part pos row (start pos)) fixed first
 same-fixed ps sp part pos row seen fixed first e f h = subst (λ (ds : List Dim). AreFixed part (length (start pos)) ds fixed first) (λ k. narrowed_dims (e k) part pos (f k) (start pos)) h
 
-pub returns-then-streams-gt3-clause-found : goal.returns-then-streams-gt3-clause-found
-returns-then-streams-gt3-clause-found g c =
-    told-nothing c.is_cut_off-seen.result c.nothing_where-then-streams-gt3.result _ _ c.nothing_where-then-streams-gt3.ensures
-    (λ t. seen-last c.args.part.now.q.now c.args.part.now.plan.now c.args.pool.now c.args.part.now.extent.now c.args.at.now.pos _ _ c.requires.here c.requires.ready c.as_slice-row.ensures.value (c.is_cut_off-seen.ensures.empty t))
+pub returns-then-is_cut_off-clause-found : goal.returns-then-is_cut_off-clause-found
+returns-then-is_cut_off-clause-found g c =
+    seen-last c.args.part.now.q.now c.args.part.now.plan.now c.args.pool.now c.args.part.now.extent.now c.args.at.now.pos _ _ c.requires.here c.requires.ready c.as_slice-row.ensures.value (c.is_cut_off.ensures.empty c.if-is_cut_off.true)
 
 pub read-cell-requires-clause-within : goal.read-cell-requires-clause-within
 read-cell-requires-clause-within g c =
@@ -185,16 +175,22 @@ pub returns-clause-alone : goal.returns-clause-alone
 returns-clause-alone g c two unknown = absurd (c.look_alone.ensures.sure unknown)
 
 pub returns-then-streams-gt3-clause-few : goal.returns-then-streams-gt3-clause-few
-returns-then-streams-gt3-clause-few g c = cut-few c.args.part.now.q.now c.args.part.now.plan.now c.args.pool.now c.args.part.now.extent.now c.args.at.now.pos _ c.requires.here c.requires.ready _ c.is_cut_off-seen.ensures.reads
+returns-then-streams-gt3-clause-few g c = cut-few c.args.part.now.q.now c.args.part.now.plan.now c.args.pool.now c.args.part.now.extent.now c.args.at.now.pos _ c.requires.here c.requires.ready _ c.is_cut_off.ensures.reads
+
+pub returns-then-is_cut_off-clause-few : goal.returns-then-is_cut_off-clause-few
+returns-then-is_cut_off-clause-few g c = cut-few c.args.part.now.q.now c.args.part.now.plan.now c.args.pool.now c.args.part.now.extent.now c.args.at.now.pos _ c.requires.here c.requires.ready _ c.is_cut_off.ensures.reads
 
 pub returns-then-streams-gt3-clause-reads : goal.returns-then-streams-gt3-clause-reads
 returns-then-streams-gt3-clause-reads g c =
     look-and-walk-four c.args.part.now.q.now c.args.part.now.plan.now c.args.at.now.pos c.requires.ready.held.walked (let w = c.requires.ready.held.walked in omega (arith, c.requires.here, w.plan.count))
     (let v = ap length c.as_slice-streams.ensures.value in let t = c.if-streams-gt3.true in omega (arith, v, t)) (let v = ap length c.as_slice-streams.ensures.value in let f = c.as_slice-streams.ensures.fits in omega (arith, v, f))
-    (c.has_single_cells.ensures c.if-has_single_cells.false) _ _ c.is_cut_off-seen.ensures.reads
+    (c.has_single_cells.ensures c.if-has_single_cells.false) _ _ c.is_cut_off.ensures.reads
 
-pub returns-then-has_single_cells-clause-found : goal.returns-then-has_single_cells-clause-found
-returns-then-has_single_cells-clause-found g c = told-nothing false _ _ _ c.nothing_where.ensures (λ t. absurd (let z : ⊥ = cc in z))
+pub returns-then-is_cut_off-clause-reads : goal.returns-then-is_cut_off-clause-reads
+returns-then-is_cut_off-clause-reads g c =
+    look-and-walk-four c.args.part.now.q.now c.args.part.now.plan.now c.args.at.now.pos c.requires.ready.held.walked (let w = c.requires.ready.held.walked in omega (arith, c.requires.here, w.plan.count))
+    (let v = ap length c.as_slice-streams.ensures.value in let t = c.if-streams-gt3.true in omega (arith, v, t)) (let v = ap length c.as_slice-streams.ensures.value in let f = c.as_slice-streams.ensures.fits in omega (arith, v, f))
+    (c.has_single_cells.ensures c.if-has_single_cells.false) _ _ c.is_cut_off.ensures.reads
 
 pub returns-then-has_single_cells-clause-reads : goal.returns-then-has_single_cells-clause-reads
 returns-then-has_single_cells-clause-reads g c =
@@ -203,39 +199,52 @@ returns-then-has_single_cells-clause-reads g c =
     (let v = ap length c.as_slice-streams.ensures.value in let f = c.as_slice-streams.ensures.fits in omega (arith, v, f)) in
     omega (arith, w)
 
-pub returns-then-is_empty-clause-found : goal.returns-then-is_empty-clause-found
-returns-then-is_empty-clause-found g c =
-    told-nothing c.is_cut_off-seen-then-is_empty.result c.nothing_where-then-is_empty.result _ _ c.nothing_where-then-is_empty.ensures
-    (λ t. seen-last c.args.part.now.q.now c.args.part.now.plan.now c.args.pool.now c.args.part.now.extent.now c.args.at.now.pos _ _ c.requires.here c.requires.ready c.as_slice-row.ensures.value (c.is_cut_off-seen-then-is_empty.ensures.empty t))
+pub returns-then-is_cut_off-2-clause-found : goal.returns-then-is_cut_off-2-clause-found
+returns-then-is_cut_off-2-clause-found g c =
+    seen-last c.args.part.now.q.now c.args.part.now.plan.now c.args.pool.now c.args.part.now.extent.now c.args.at.now.pos _ _ c.requires.here c.requires.ready c.as_slice-row.ensures.value (c.is_cut_off-then-is_empty.ensures.empty c.if-is_cut_off-2.true)
 
 pub returns-then-is_empty-clause-few : goal.returns-then-is_empty-clause-few
-returns-then-is_empty-clause-few g c = cut-few c.args.part.now.q.now c.args.part.now.plan.now c.args.pool.now c.args.part.now.extent.now c.args.at.now.pos _ c.requires.here c.requires.ready _ c.is_cut_off-seen-then-is_empty.ensures.reads
+returns-then-is_empty-clause-few g c = cut-few c.args.part.now.q.now c.args.part.now.plan.now c.args.pool.now c.args.part.now.extent.now c.args.at.now.pos _ c.requires.here c.requires.ready _ c.is_cut_off-then-is_empty.ensures.reads
+
+pub returns-then-is_cut_off-2-clause-few : goal.returns-then-is_cut_off-2-clause-few
+returns-then-is_cut_off-2-clause-few g c = cut-few c.args.part.now.q.now c.args.part.now.plan.now c.args.pool.now c.args.part.now.extent.now c.args.at.now.pos _ c.requires.here c.requires.ready _ c.is_cut_off-then-is_empty.ensures.reads
 
 pub returns-then-is_empty-clause-reads : goal.returns-then-is_empty-clause-reads
 returns-then-is_empty-clause-reads g c =
-    room-for-more c.args.part.now.q.now c.args.part.now.plan.now c.args.pool.now c.args.part.now.extent.now c.args.at.now.pos _ c.requires.here c.requires.ready (let v = ap length c.as_slice-streams.ensures.value in let f = c.if-streams-gt3.false in omega (arith, v, f)) _ (cut-few c.args.part.now.q.now c.args.part.now.plan.now c.args.pool.now c.args.part.now.extent.now c.args.at.now.pos _ c.requires.here c.requires.ready _ c.is_cut_off-seen-then-is_empty.ensures.reads)
+    room-for-more c.args.part.now.q.now c.args.part.now.plan.now c.args.pool.now c.args.part.now.extent.now c.args.at.now.pos _ c.requires.here c.requires.ready (let v = ap length c.as_slice-streams.ensures.value in let f = c.if-streams-gt3.false in omega (arith, v, f)) _ (cut-few c.args.part.now.q.now c.args.part.now.plan.now c.args.pool.now c.args.part.now.extent.now c.args.at.now.pos _ c.requires.here c.requires.ready _ c.is_cut_off-then-is_empty.ensures.reads)
 
-pub returns-in_default-clause-found : goal.returns-in_default-clause-found
-returns-in_default-clause-found g c =
+pub returns-then-is_cut_off-2-clause-reads : goal.returns-then-is_cut_off-2-clause-reads
+returns-then-is_cut_off-2-clause-reads g c =
+    room-for-more c.args.part.now.q.now c.args.part.now.plan.now c.args.pool.now c.args.part.now.extent.now c.args.at.now.pos _ c.requires.here c.requires.ready (let v = ap length c.as_slice-streams.ensures.value in let f = c.if-streams-gt3.false in omega (arith, v, f)) _ (cut-few c.args.part.now.q.now c.args.part.now.plan.now c.args.pool.now c.args.part.now.extent.now c.args.at.now.pos _ c.requires.here c.requires.ready _ c.is_cut_off-then-is_empty.ensures.reads)
+
+pub returns-then-is_clear_ahead-clause-found : goal.returns-then-is_clear_ahead-clause-found
+returns-then-is_clear_ahead-clause-found g c =
     let held = c.requires.ready.held in
     let here : c.args.at.now.pos < length c.args.part.now.plan.now.streams.items = omega (arith, c.requires.here, held.walked.plan.count) in
-    told-nothing c.is_clear_ahead-clear.result c.nothing_where-in_default.result _ _ c.nothing_where-in_default.ensures
-    (λ t. clear-ahead c.args.part.now.q.now c.args.part.now.plan.now c.args.at.now.pos c.args.at.now.row.now.items _ _ (read_from (cells_of c.args.pool.now c.args.part.now.extent.now)) held.walked here
-    (c.as_slice.ensures.value ∙ c.pairs.ensures) c.as_slice-row.ensures.value (c.is_clear_ahead-clear.ensures.clear t))
+    clear-ahead c.args.part.now.q.now c.args.part.now.plan.now c.args.at.now.pos c.args.at.now.row.now.items _ _ (read_from (cells_of c.args.pool.now c.args.part.now.extent.now)) held.walked here
+    (c.as_slice.ensures.value ∙ c.pairs.ensures) c.as_slice-row.ensures.value (c.is_clear_ahead.ensures.clear c.if-is_clear_ahead.true)
 
 pub returns-in_default-clause-few : goal.returns-in_default-clause-few
-returns-in_default-clause-few g c = marks-few c.args.part.now.q.now c.args.part.now.plan.now c.args.pool.now c.args.part.now.extent.now c.args.at.now.pos _ (length (start c.args.at.now.pos)) c.requires.here c.requires.ready _ (length (start c.args.at.now.pos) < length c.args.part.now.plan.now.streams.items) (λ there. there) (half-few _ _ _ _ c.is_clear_ahead-clear.ensures.reads)
+returns-in_default-clause-few g c = marks-few c.args.part.now.q.now c.args.part.now.plan.now c.args.pool.now c.args.part.now.extent.now c.args.at.now.pos _ (length (start c.args.at.now.pos)) c.requires.here c.requires.ready _ (length (start c.args.at.now.pos) < length c.args.part.now.plan.now.streams.items) (λ there. there) (half-few _ _ _ _ c.is_clear_ahead.ensures.reads)
+
+pub returns-then-is_clear_ahead-clause-few : goal.returns-then-is_clear_ahead-clause-few
+returns-then-is_clear_ahead-clause-few g c = marks-few c.args.part.now.q.now c.args.part.now.plan.now c.args.pool.now c.args.part.now.extent.now c.args.at.now.pos _ (length (start c.args.at.now.pos)) c.requires.here c.requires.ready _ (length (start c.args.at.now.pos) < length c.args.part.now.plan.now.streams.items) (λ there. there) (half-few _ _ _ _ c.is_clear_ahead.ensures.reads)
 
 pub returns-in_default-clause-reads : goal.returns-in_default-clause-reads
 returns-in_default-clause-reads g c =
     room-for-more c.args.part.now.q.now c.args.part.now.plan.now c.args.pool.now c.args.part.now.extent.now c.args.at.now.pos _ c.requires.here c.requires.ready (let v = ap length c.as_slice-streams.ensures.value in let f = c.if-streams-gt3.false in omega (arith, v, f)) _
-    (marks-few c.args.part.now.q.now c.args.part.now.plan.now c.args.pool.now c.args.part.now.extent.now c.args.at.now.pos _ (length (start c.args.at.now.pos)) c.requires.here c.requires.ready _ (length (start c.args.at.now.pos) < length c.args.part.now.plan.now.streams.items) (λ there. there) (half-few _ _ _ _ c.is_clear_ahead-clear.ensures.reads))
+    (marks-few c.args.part.now.q.now c.args.part.now.plan.now c.args.pool.now c.args.part.now.extent.now c.args.at.now.pos _ (length (start c.args.at.now.pos)) c.requires.here c.requires.ready _ (length (start c.args.at.now.pos) < length c.args.part.now.plan.now.streams.items) (λ there. there) (half-few _ _ _ _ c.is_clear_ahead.ensures.reads))
+
+pub returns-then-is_clear_ahead-clause-reads : goal.returns-then-is_clear_ahead-clause-reads
+returns-then-is_clear_ahead-clause-reads g c =
+    room-for-more c.args.part.now.q.now c.args.part.now.plan.now c.args.pool.now c.args.part.now.extent.now c.args.at.now.pos _ c.requires.here c.requires.ready (let v = ap length c.as_slice-streams.ensures.value in let f = c.if-streams-gt3.false in omega (arith, v, f)) _
+    (marks-few c.args.part.now.q.now c.args.part.now.plan.now c.args.pool.now c.args.part.now.extent.now c.args.at.now.pos _ (length (start c.args.at.now.pos)) c.requires.here c.requires.ready _ (length (start c.args.at.now.pos) < length c.args.part.now.plan.now.streams.items) (λ there. there) (half-few _ _ _ _ c.is_clear_ahead.ensures.reads))
 
 pub returns-then-is_empty-clause-alone : goal.returns-then-is_empty-clause-alone
-returns-then-is_empty-clause-alone g c two unknown = cut-none c.args.part.now.plan.now _ _ _ two c.is_cut_off-seen-then-is_empty.ensures.reads
+returns-then-is_empty-clause-alone g c two unknown = cut-none c.args.part.now.plan.now _ _ _ two c.is_cut_off-then-is_empty.ensures.reads
 
 pub returns-in_default-clause-alone : goal.returns-in_default-clause-alone
-returns-in_default-clause-alone g c two unknown = marks-half c.args.part.now.q.now c.args.part.now.plan.now c.args.pool.now c.args.part.now.extent.now c.args.at.now.pos _ (length (start c.args.at.now.pos)) c.requires.here c.requires.ready _ c.is_clear_ahead-clear.ensures.reads
+returns-in_default-clause-alone g c two unknown = marks-half c.args.part.now.q.now c.args.part.now.plan.now c.args.pool.now c.args.part.now.extent.now c.args.at.now.pos _ (length (start c.args.at.now.pos)) c.requires.here c.requires.ready _ c.is_clear_ahead.ensures.reads
 
 pub returns-then-streams-gt3-clause-alone : goal.returns-then-streams-gt3-clause-alone
 returns-then-streams-gt3-clause-alone g c two unknown = absurd (let v = ap length c.as_slice-streams.ensures.value in let t = c.if-streams-gt3.true in omega (arith, v, t, two))

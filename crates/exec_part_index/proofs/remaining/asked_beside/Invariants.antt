@@ -7,9 +7,9 @@ use Rattle.exec_part_index.proofs.remaining.asked_beside.Given as goal
 
 abbrev pub invariant-tests : goal.invariant-tests
 invariant-tests l =
-    MeetWhere l.place l.signed.pairs.now l.signed.signs.now l.list.items (λ v. keeps_tests l.place (alone v) (pairs l.q) l.part.signs.items (take l.test-index l.prepared.tests.items))
+    MeetWhere l.place l.tested.pairs.items l.shown l.list.items (λ v. keeps_tests l.place (alone v) (pairs l.q) l.part.signs.items (take l.test-index l.prepared.tests.items))
 
 abbrev pub invariant-asked : goal.invariant-asked
 invariant-asked l =
-    MeetWhere l.place l.signed.pairs.now l.signed.signs.now l.list.items
+    MeetWhere l.place l.tested.pairs.items l.shown l.list.items
     (λ v. keeps_tests l.place (alone v) (pairs l.q) l.part.signs.items l.prepared.tests.items && keeps_local l.place (alone v) (take l.condition-index l.prepared.asked.items))

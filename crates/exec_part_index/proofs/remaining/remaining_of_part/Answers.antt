@@ -1,7 +1,6 @@
-use Rattle.std.proofs.Common.{◌≤◌, ◌∙◌, List, length, sym, subst}
+use Rattle.std.proofs.Common.{◌∙◌, List, sym, subst}
 use Rattle.std.proofs.lemmas.Option.{get_or_from_slice_get}
 use Rattle.std.proofs.lemmas.Result.{IfOk-weaker}
-use Rattle.sem_query.specs.declared.part.Pair.{Pair}
 use Rattle.sem_query.specs.declared.part.Sign.{Sign}
 use Rattle.sem_query.specs.declared.plan.PartPlan.{PartPlan}
 use Rattle.sem_query.specs.Parts.{pairs}
@@ -17,12 +16,10 @@ returns c =
     let p = part_at c.args.parts.now c.args.i c.requires.inside in
     let is = subst (λ (x : PartPlan). IsPrepared (pairs c.args.q.now) x c.prepared_of-prepared.result.now)
     (sym (c.get.ensures p.0 ∙ get_or_from_slice_get c.args.parts.now c.args.i p.0 p.0 p.1)) (c.prepared_of-prepared.ensures p.0 p.1) in
-    let few = subst (λ (ps : List Pair). length ps ≤ 20) (sym c.signed_at-signed.ensures.pairs) c.requires.few in
     IfOk-weaker c.asked_beside.result _ _
     (λ list asks part at.
     subst (λ (x : PartPlan). AsksOnly c.args.q.now x c.args.place c.args.tested.now.pairs.items (code_after 0 (shown_signs c.args.tested.now c.args.i)) list.items)
     (c.get.ensures part ∙ get_or_from_slice_get c.args.parts.now c.args.i part part at)
-    (subst (λ (ss : List Sign). AsksOnly c.args.q.now c.get.result.now c.args.place c.args.tested.now.pairs.items (code_after 0 ss) list.items) c.signed_at-signed.ensures.signs
-    (subst (λ (ps : List Pair). AsksOnly c.args.q.now c.get.result.now c.args.place ps (code_after 0 c.signed_at-signed.result.signs.now) list.items) c.signed_at-signed.ensures.pairs
-    (said_or_left c.args.q.now c.get.result.now c.args.place c.prepared_of-prepared.result.now c.signed_at-signed.result.pairs.now c.signed_at-signed.result.signs.now list.items c.signed_at-signed.ensures.full few is asks))))
+    (subst (λ (ss : List Sign). AsksOnly c.args.q.now c.get.result.now c.args.place c.args.tested.now.pairs.items (code_after 0 ss) list.items) c.shown_at-shown.ensures.signs
+    (said_or_left c.args.q.now c.get.result.now c.args.place c.prepared_of-prepared.result.now c.args.tested.now.pairs.items c.shown_at-shown.result.now list.items c.shown_at-shown.ensures.full c.requires.few is asks)))
     c.asked_beside.ensures

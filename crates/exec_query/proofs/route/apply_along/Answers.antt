@@ -1,4 +1,4 @@
-use Rattle.std.proofs.Common.{◌≡◌, ◌∙◌, ◌+◌, ◌&&◌, ◌||◌, not, true, false, refl, ap, sym, subst, arith, slice_get, Some, Bool}
+use Rattle.std.proofs.Common.{◌≡◌, ◌∙◌, ◌+◌, ◌&&◌, ◌||◌, not, true, refl, ap, sym, subst, arith, slice_get, Some}
 use Rattle.std.specs.Option.{IfSome}
 use Rattle.std.proofs.lemmas.Option.{slice_get-get_or}
 use Rattle.sem_query.specs.declared.plan.PartPlan.{PartPlan}
@@ -13,17 +13,13 @@ use Rattle.exec_part_index.proofs.PassedCells.{on-chain, next-of}
 use Rattle.exec_part_index.specs.Leaving.{number_of}
 use Rattle.exec_pool.specs.Counted.{StepsValue}
 use Rattle.sem_laws.proofs.Tests.{and-left, and-right}
-use Rattle.exec_query.proofs.OwnCells.{turned, can-count, old-now}
+use Rattle.exec_query.proofs.OwnCells.{turned, can-count}
 use Rattle.exec_query.proofs.route.apply_along.Goals as goal
 use Rattle.exec_query.proofs.route.apply_along.Goals.{then-is_inside, else-is_inside}
 
-asked : (owns known all : Bool) → (known ≡ true → all ≡ true) → (owns || known) ≡ true → (owns || all) ≡ true
-asked true known all more h = refl
-asked false known all more h = more h
-
 pub parts-init : goal.parts-init
 parts-init g c =
-    let o = c.args.led.now.coded in
+    let o = c.args.led.now in
     let e = c.args.led.now.extent.now in
     let v = by_column o.row.now.items in
     let within = hit_within o.q.now o.parts.now o.pos c.args.led.now.part_index.now c.requires.part_index v 0 c.args.first c.requires.first in
@@ -40,25 +36,25 @@ parts-init g c =
 
 pub reach-requires-clause-held : goal.reach-requires-clause-held
 reach-requires-clause-held g c =
-    let o = c.args.led.now.coded in
+    let o = c.args.led.now in
     held-parts o.q.now o.parts.now c.args.led.now.extent.now o.pos c.requires.here o.row.now.items c.args.pool.now c.requires.ready c.parts.pool c.parts.invariant.done.taken.live
 
 pub apply_to_part-changed-requires-clause-ready : goal.apply_to_part-changed-requires-clause-ready
 apply_to_part-changed-requires-clause-ready g c =
-    let o = c.args.led.now.coded in
+    let o = c.args.led.now in
     let e = c.args.led.now.extent.now in
     let m = c.in-Part.met.i in
     let at_m : slice_get o.parts.now m ≡ Some c.get-plan.result.now
     = slice_get-get_or o.parts.now m c.get-plan.result.now c.in-Part.ensures.reached.1.inside ∙ ap (λ (p : PartPlan). Some p) (sym (c.get-plan.ensures c.get-plan.result.now)) in
     let done : HaveDone o.q.now o.parts.now e o.pos o.row.now.items c.args.pool.now c.args.table.now c.args.steps.now m c.parts.pool c.parts.table (paid_to c.parts.steps c.parts.i m)
-    = met_done o.q.now o.parts.now e o.pos c.requires.here o.row.now.items c.args.pool.now c.requires.ready c.args.table.now c.args.steps.now c.args.led.now.known c.args.led.now.each c.parts.same c.is_known-passes.result
-    c.requires.known c.requires.each c.is_known-passes.ensures c.args.led.now.part_index.now c.parts.i m c.parts.pool c.parts.table c.parts.steps c.parts.invariant.same
+    = met_done o.q.now o.parts.now e o.pos c.requires.here o.row.now.items c.args.pool.now c.requires.ready c.args.table.now c.args.steps.now c.args.led.now.known c.args.led.now.each c.parts.same (c.args.led.now.known && (c.args.led.now.each || c.parts.same))
+    c.requires.known c.requires.each refl c.args.led.now.part_index.now c.parts.i m c.parts.pool c.parts.table c.parts.steps c.parts.invariant.same
     (λ f. sym (ap number_of (c.reach.ensures.none f)) ∙ ap number_of c.in-Part.is) c.in-Part.ensures.reached.0 c.parts.invariant.done in
     ready_part o.q.now o.parts.now e o.pos c.requires.here o.row.now.items c.args.pool.now c.requires.ready m c.get-plan.result.now at_m c.parts.pool done.taken
 
 pub apply_to_part-changed-requires-clause-prepared : goal.apply_to_part-changed-requires-clause-prepared
 apply_to_part-changed-requires-clause-prepared g c =
-    let o = c.args.led.now.coded in
+    let o = c.args.led.now in
     let e = c.args.led.now.extent.now in
     let m = c.in-Part.met.i in
     let at_m : slice_get o.parts.now m ≡ Some c.get-plan.result.now
@@ -67,48 +63,34 @@ apply_to_part-changed-requires-clause-prepared g c =
 
 pub apply_to_part-changed-requires-clause-room : goal.apply_to_part-changed-requires-clause-room
 apply_to_part-changed-requires-clause-room g c =
-    let o = c.args.led.now.coded in
+    let o = c.args.led.now in
     let e = c.args.led.now.extent.now in
     let m = c.in-Part.met.i in
     let at_m : slice_get o.parts.now m ≡ Some c.get-plan.result.now
     = slice_get-get_or o.parts.now m c.get-plan.result.now c.in-Part.ensures.reached.1.inside ∙ ap (λ (p : PartPlan). Some p) (sym (c.get-plan.ensures c.get-plan.result.now)) in
     let done : HaveDone o.q.now o.parts.now e o.pos o.row.now.items c.args.pool.now c.args.table.now c.args.steps.now m c.parts.pool c.parts.table (paid_to c.parts.steps c.parts.i m)
-    = met_done o.q.now o.parts.now e o.pos c.requires.here o.row.now.items c.args.pool.now c.requires.ready c.args.table.now c.args.steps.now c.args.led.now.known c.args.led.now.each c.parts.same c.is_known-passes.result
-    c.requires.known c.requires.each c.is_known-passes.ensures c.args.led.now.part_index.now c.parts.i m c.parts.pool c.parts.table c.parts.steps c.parts.invariant.same
+    = met_done o.q.now o.parts.now e o.pos c.requires.here o.row.now.items c.args.pool.now c.requires.ready c.args.table.now c.args.steps.now c.args.led.now.known c.args.led.now.each c.parts.same (c.args.led.now.known && (c.args.led.now.each || c.parts.same))
+    c.requires.known c.requires.each refl c.args.led.now.part_index.now c.parts.i m c.parts.pool c.parts.table c.parts.steps c.parts.invariant.same
     (λ f. sym (ap number_of (c.reach.ensures.none f)) ∙ ap number_of c.in-Part.is) c.in-Part.ensures.reached.0 c.parts.invariant.done in
     room_now o.q.now o.parts.now e o.pos c.requires.here o.row.now.items c.args.pool.now c.requires.ready m c.get-plan.result.now at_m c.parts.pool done.taken
     o.q.now.distinct c.args.table.now c.parts.table c.requires.room done.found
 
 pub apply_to_part-changed-requires-clause-counts : goal.apply_to_part-changed-requires-clause-counts
 apply_to_part-changed-requires-clause-counts g c =
-    let o = c.args.led.now.coded in
+    let o = c.args.led.now in
     let e = c.args.led.now.extent.now in
     let m = c.in-Part.met.i in
     let at_m : slice_get o.parts.now m ≡ Some c.get-plan.result.now
     = slice_get-get_or o.parts.now m c.get-plan.result.now c.in-Part.ensures.reached.1.inside ∙ ap (λ (p : PartPlan). Some p) (sym (c.get-plan.ensures c.get-plan.result.now)) in
     let done : HaveDone o.q.now o.parts.now e o.pos o.row.now.items c.args.pool.now c.args.table.now c.args.steps.now m c.parts.pool c.parts.table (paid_to c.parts.steps c.parts.i m)
-    = met_done o.q.now o.parts.now e o.pos c.requires.here o.row.now.items c.args.pool.now c.requires.ready c.args.table.now c.args.steps.now c.args.led.now.known c.args.led.now.each c.parts.same c.is_known-passes.result
-    c.requires.known c.requires.each c.is_known-passes.ensures c.args.led.now.part_index.now c.parts.i m c.parts.pool c.parts.table c.parts.steps c.parts.invariant.same
+    = met_done o.q.now o.parts.now e o.pos c.requires.here o.row.now.items c.args.pool.now c.requires.ready c.args.table.now c.args.steps.now c.args.led.now.known c.args.led.now.each c.parts.same (c.args.led.now.known && (c.args.led.now.each || c.parts.same))
+    c.requires.known c.requires.each refl c.args.led.now.part_index.now c.parts.i m c.parts.pool c.parts.table c.parts.steps c.parts.invariant.same
     (λ f. sym (ap number_of (c.reach.ensures.none f)) ∙ ap number_of c.in-Part.is) c.in-Part.ensures.reached.0 c.parts.invariant.done in
-    λ h. can-count o.q.now o.parts.now e o.pos c.requires.here o.row.now.items c.args.pool.now c.requires.ready m c.get-plan.result.now at_m c.parts.pool done.taken c.owns-owns.result c.parts.same c.owns-owns.ensures c.parts.invariant.same c.args.led.now.known (asked c.owns-owns.result c.may_stay-known.result _ (λ k. sym c.is_known.ensures ∙ c.may_stay-known.ensures k) h)
-
-pub apply_to_part-changed-requires-clause-old : goal.apply_to_part-changed-requires-clause-old
-apply_to_part-changed-requires-clause-old g c =
-    let o = c.args.led.now.coded in
-    let e = c.args.led.now.extent.now in
-    let m = c.in-Part.met.i in
-    let at_m : slice_get o.parts.now m ≡ Some c.get-plan.result.now
-    = slice_get-get_or o.parts.now m c.get-plan.result.now c.in-Part.ensures.reached.1.inside ∙ ap (λ (p : PartPlan). Some p) (sym (c.get-plan.ensures c.get-plan.result.now)) in
-    let done : HaveDone o.q.now o.parts.now e o.pos o.row.now.items c.args.pool.now c.args.table.now c.args.steps.now m c.parts.pool c.parts.table (paid_to c.parts.steps c.parts.i m)
-    = met_done o.q.now o.parts.now e o.pos c.requires.here o.row.now.items c.args.pool.now c.requires.ready c.args.table.now c.args.steps.now c.args.led.now.known c.args.led.now.each c.parts.same c.is_known-passes.result
-    c.requires.known c.requires.each c.is_known-passes.ensures c.args.led.now.part_index.now c.parts.i m c.parts.pool c.parts.table c.parts.steps c.parts.invariant.same
-    (λ f. sym (ap number_of (c.reach.ensures.none f)) ∙ ap number_of c.in-Part.is) c.in-Part.ensures.reached.0 c.parts.invariant.done in
-    λ known leaves. old-now o.q.now o.parts.now e o.pos c.requires.here o.row.now.items c.args.pool.now c.requires.ready m c.get-plan.result.now at_m c.parts.pool done.taken c.owns-owns.result c.parts.same c.owns-owns.ensures c.parts.invariant.same c.args.led.now.known c.args.table.now c.parts.table c.requires.known done.found
-    (sym (c.in-Part.ensures.reached.1.placed c.get-plan.result.now at_m).inside ∙ sym c.is_inside.ensures ∙ c.if-is_inside.true) (sym c.is_known.ensures ∙ c.may_stay-known.ensures known) leaves
+    can-count o.q.now o.parts.now e o.pos c.requires.here o.row.now.items c.args.pool.now c.requires.ready m c.get-plan.result.now at_m c.parts.pool done.taken c.owns-owns.result c.owns-owns.ensures
 
 pub owns-owns-requires-clause-part : goal.owns-owns-requires-clause-part
 owns-owns-requires-clause-part g c =
-    let o = c.args.led.now.coded in
+    let o = c.args.led.now in
     let e = c.args.led.now.extent.now in
     let m = c.in-Part.met.i in
     let at_m : slice_get o.parts.now m ≡ Some c.get-plan.result.now
@@ -117,7 +99,7 @@ owns-owns-requires-clause-part g c =
 
 pub cell_after-told-requires-clause-part : goal.cell_after-told-requires-clause-part
 cell_after-told-requires-clause-part g c =
-    let o = c.args.led.now.coded in
+    let o = c.args.led.now in
     let e = c.args.led.now.extent.now in
     let m = c.in-Part.met.i in
     let at_m : slice_get o.parts.now m ≡ Some c.get-plan.result.now
@@ -126,7 +108,7 @@ cell_after-told-requires-clause-part g c =
 
 pub apply_to_part-changed-requires-clause-admitted : goal.apply_to_part-changed-requires-clause-admitted
 apply_to_part-changed-requires-clause-admitted g c =
-    let o = c.args.led.now.coded in
+    let o = c.args.led.now in
     let e = c.args.led.now.extent.now in
     let m = c.in-Part.met.i in
     let at_m : slice_get o.parts.now m ≡ Some c.get-plan.result.now
@@ -135,7 +117,7 @@ apply_to_part-changed-requires-clause-admitted g c =
 
 pub apply_to_part-changed-requires-clause-placement : goal.apply_to_part-changed-requires-clause-placement
 apply_to_part-changed-requires-clause-placement g c =
-    let o = c.args.led.now.coded in
+    let o = c.args.led.now in
     let e = c.args.led.now.extent.now in
     let m = c.in-Part.met.i in
     let at_m : slice_get o.parts.now m ≡ Some c.get-plan.result.now
@@ -144,7 +126,7 @@ apply_to_part-changed-requires-clause-placement g c =
 
 pub apply_to_part-changed-requires-clause-own : goal.apply_to_part-changed-requires-clause-own
 apply_to_part-changed-requires-clause-own g c =
-    let o = c.args.led.now.coded in
+    let o = c.args.led.now in
     let e = c.args.led.now.extent.now in
     let m = c.in-Part.met.i in
     let at_m : slice_get o.parts.now m ≡ Some c.get-plan.result.now
@@ -153,7 +135,7 @@ apply_to_part-changed-requires-clause-own g c =
 
 pub cell_after-told-requires-clause-placement : goal.cell_after-told-requires-clause-placement
 cell_after-told-requires-clause-placement g c =
-    let o = c.args.led.now.coded in
+    let o = c.args.led.now in
     let e = c.args.led.now.extent.now in
     let m = c.in-Part.met.i in
     let at_m : slice_get o.parts.now m ≡ Some c.get-plan.result.now
@@ -162,31 +144,31 @@ cell_after-told-requires-clause-placement g c =
 
 pub parts-preserved-in-Unasked : goal.parts-preserved-in-Unasked
 parts-preserved-in-Unasked g c =
-    let o = c.args.led.now.coded in
+    let o = c.args.led.now in
     let passed = c.in-Unasked.ensures.reached.1 in
     let low = passed.behind in
     let r = c.in-Unasked.ensures.reads in
     let w = c.in-Unasked.ensures.writes in
     record {
       done =
-          reached_done o.q.now o.parts.now c.args.led.now.extent.now o.pos c.requires.here o.row.now.items c.args.pool.now c.requires.ready c.args.table.now c.args.steps.now c.args.led.now.known c.args.led.now.each c.parts.same c.is_known-passes.result
-          c.requires.known c.requires.each c.is_known-passes.ensures c.parts.i c.in-Unasked.next c.parts.pool c.parts.table c.parts.steps c.reach.new.steps c.parts.invariant.same
+          reached_done o.q.now o.parts.now c.args.led.now.extent.now o.pos c.requires.here o.row.now.items c.args.pool.now c.requires.ready c.args.table.now c.args.steps.now c.args.led.now.known c.args.led.now.each c.parts.same (c.args.led.now.known && (c.args.led.now.each || c.parts.same))
+          c.requires.known c.requires.each refl c.parts.i c.in-Unasked.next c.parts.pool c.parts.table c.parts.steps c.reach.new.steps c.parts.invariant.same
           (λ f. sym (ap number_of (c.reach.ensures.none f)) ∙ ap number_of c.in-Unasked.is) low passed.there.within (omega (arith, r)) (omega (arith, w)) passed.left c.parts.invariant.done;
       same = c.parts.invariant.same;
       chain = passed.there;
-      told = subst (λ told. IfSome told (λ (cell : CellAt). StandsAt o.q.now o.parts.now o.pos o.row.now.items c.in-Unasked.next cell)) (sym c.take.ensures.after) tt;
+      told = tt;
     }
 
 pub parts-preserved : goal.parts-preserved
 parts-preserved g c =
-    let o = c.args.led.now.coded in
+    let o = c.args.led.now in
     let e = c.args.led.now.extent.now in
     let m = c.in-Part.met.i in
     let at_m : slice_get o.parts.now m ≡ Some c.get-plan.result.now
     = slice_get-get_or o.parts.now m c.get-plan.result.now c.in-Part.ensures.reached.1.inside ∙ ap (λ (p : PartPlan). Some p) (sym (c.get-plan.ensures c.get-plan.result.now)) in
     let done : HaveDone o.q.now o.parts.now e o.pos o.row.now.items c.args.pool.now c.args.table.now c.args.steps.now m c.parts.pool c.parts.table (paid_to c.parts.steps c.parts.i m)
-    = met_done o.q.now o.parts.now e o.pos c.requires.here o.row.now.items c.args.pool.now c.requires.ready c.args.table.now c.args.steps.now c.args.led.now.known c.args.led.now.each c.parts.same c.is_known-passes.result
-    c.requires.known c.requires.each c.is_known-passes.ensures c.args.led.now.part_index.now c.parts.i m c.parts.pool c.parts.table c.parts.steps c.parts.invariant.same
+    = met_done o.q.now o.parts.now e o.pos c.requires.here o.row.now.items c.args.pool.now c.requires.ready c.args.table.now c.args.steps.now c.args.led.now.known c.args.led.now.each c.parts.same (c.args.led.now.known && (c.args.led.now.each || c.parts.same))
+    c.requires.known c.requires.each refl c.args.led.now.part_index.now c.parts.i m c.parts.pool c.parts.table c.parts.steps c.parts.invariant.same
     (λ f. sym (ap number_of (c.reach.ensures.none f)) ∙ ap number_of c.in-Part.is) c.in-Part.ensures.reached.0 c.parts.invariant.done in
     let next = next-of o.q.now o.parts.now o.pos c.args.led.now.part_index.now c.requires.part_index o.row.now.items m c.after-i.result c.in-Part.ensures.reached.1.inside c.in-Part.ensures.reached.0.there c.after-i.ensures.next in
     let within = hit_within o.q.now o.parts.now o.pos c.args.led.now.part_index.now c.requires.part_index (by_column o.row.now.items) (m + 1) c.after-i.result next in
@@ -216,7 +198,7 @@ parts-preserved g c =
     let same : c.if-is_inside.same ≡ true → c.if-is_inside.pool ≡ c.args.pool.now
     = elim c.if-is_inside.branch [
       | then-is_inside w ↦ (λ h.
-          let both : (c.parts.same && not w.apply_to_part-changed.result) ≡ true = sym (w.same-is ∙ w.stays_same-same.ensures) ∙ h in
+          let both : (c.parts.same && not w.apply_to_part-changed.result) ≡ true = sym w.same-is ∙ h in
           w.pool-is ∙ w.apply_to_part-changed.ensures.same (turned w.apply_to_part-changed.result (and-right c.parts.same _ both)) ∙ c.parts.invariant.same (and-left _ (not w.apply_to_part-changed.result) both))
       | else-is_inside w ↦ (λ h. w.pool-is ∙ c.parts.invariant.same (sym w.same-is ∙ h))
     ] in

@@ -8,11 +8,11 @@ use Rattle.exec_query.proofs.route.apply_along.Given as goal
 
 abbrev pub invariant-parts : goal.invariant-parts
 invariant-parts g l = record {
-  done : HaveDone l.led.coded.q.now l.led.coded.parts.now l.led.extent.now l.led.coded.pos l.led.coded.row.now.items l.fn.pool l.fn.table l.fn.steps l.i l.pool l.table l.steps;
+  done : HaveDone l.led.q.now l.led.parts.now l.led.extent.now l.led.pos l.led.row.now.items l.fn.pool l.fn.table l.fn.steps l.i l.pool l.table l.steps;
   same : l.same ≡ true → l.pool ≡ l.fn.pool;
-  chain : IsOnChain l.led.coded.q.now l.led.coded.parts.now l.led.part_index.now l.led.coded.row.now.items l.i;
-  told : IfSome l.told (λ (cell : CellAt). StandsAt l.led.coded.q.now l.led.coded.parts.now l.led.coded.pos l.led.coded.row.now.items l.i cell);
+  chain : IsOnChain l.led.q.now l.led.parts.now l.led.part_index.now l.led.row.now.items l.i;
+  told : IfSome l.told (λ (cell : CellAt). StandsAt l.led.q.now l.led.parts.now l.led.pos l.led.row.now.items l.i cell);
 }
 
 abbrev pub decreases-parts : goal.decreases-parts
-decreases-parts g l = length l.led.coded.parts.now - l.i
+decreases-parts g l = length l.led.parts.now - l.i

@@ -1,4 +1,4 @@
-use Rattle.std.proofs.Common.{◌≡◌, ◌+◌, ◌*◌, ◌<◌, ◌^◌, ℕ, length, map, get_or, refl, sym, ap, ◌∙◌, subst, arith, pos}
+use Rattle.std.proofs.Common.{rules, w64, SFits, to_z, of_z, ◌≡◌, ◌+◌, ◌*◌, ◌<◌, ◌^◌, ℕ, length, map, get_or, refl, sym, ap, ◌∙◌, subst, arith, pos}
 use Rattle.sem_query.specs.Boxes.{dim_size, box_size, place_of, AreFull}
 use Rattle.sem_query.specs.declared.plan.Dim.{Dim}
 use Rattle.sem_query.specs.Plan.{dims_at}
@@ -8,6 +8,10 @@ use Rattle.exec_synopsis.specs.Narrowing.{narrow}
 use Rattle.exec_ranges.specs.Narrowed.{narrowed_dims}
 use Rattle.exec_ranges.proofs.FixedLaws.{SoFixed, place-fits, fixed-next, fixed-end}
 use Rattle.exec_ranges.proofs.DimLaws.{dims-beside}
+use Rattle.std.proofs.lemmas.Int.{ints}
+use Rattle.exec_ranges.specs.Lined.{IsFixed}
+use Rattle.exec_synopsis.specs.Narrowing.{binding_column, narrowed_to}
+use Rattle.exec_ranges.proofs.NarrowLaws.{fixed-narrow}
 use Rattle.exec_ranges.proofs.fixed.fixed_dims.Goals as goal
 
 abbrev none : Dim
@@ -31,8 +35,14 @@ overflow_mul-place c =
     let few : box_size full < 2 ^ 32 = omega (arith, size, c.requires.laid.size, c.requires.laid.few) in
     let narrows : Dim → Dim = narrow c.args.at.now.arriving (length c.args.known.now) c.args.at.now.part.now.equal.items c.args.at.now.part.now.less.items (value_in c.args.at.now.pairs.now c.args.at.now.part.now c.args.at.now.arriving c.args.at.now.row.now c.args.known.now) in
     let d : Dim = get_or full c.dims.dim-index none in
-    let n = c.in-Some.fixed in
-    let fits = place-fits narrows full c.dims.dims.items c.dims.dim-index c.dims.place c.dims.invariant d none n c.dims-test.true refl c.in-Some.ensures.is c.in-Some.ensures.one c.in-Some.ensures.low c.in-Some.ensures.high are-full few in
+    let n = c.in-Some-pinned.fixed in
+    let fits64 : SFits w64 c.value_in.result = search rules in
+    let same : to_z w64 (of_z w64 c.value_in.result) ≡ c.value_in.result = omega (arith, ints) in
+    let so : IsFixed d (narrows d) n = fixed-narrow c.args.at.now.arriving (length c.args.known.now) c.args.at.now.part.now.equal.items c.args.at.now.part.now.less.items (value_in c.args.at.now.pairs.now c.args.at.now.part.now c.args.at.now.arriving c.args.at.now.row.now c.args.known.now) d c.in-Some.column n
+    (ap (binding_column c.args.at.now.arriving (length c.args.known.now) d.attr) (sym c.as_slice-links.ensures.value) ∙ sym c.binding_column.ensures ∙ c.in-Some.is)
+    (c.in-Some-pinned.ensures.0 ∙ ap (narrowed_to d) (same ∙ c.value_in.ensures))
+    c.in-Some-pinned.ensures.1 in
+    let fits = place-fits narrows full c.dims.dims.items c.dims.dim-index c.dims.place c.dims.invariant d none n c.dims-test.true refl so.is so.one so.low so.high are-full few in
     let x : c.dims.place * c.dim_size.result ≡ c.dims.place * dim_size d = ap (λ k. c.dims.place * k) c.dim_size.ensures in
     omega (arith, fits, x)
 
@@ -45,8 +55,14 @@ overflow_add-place c =
     let few : box_size full < 2 ^ 32 = omega (arith, size, c.requires.laid.size, c.requires.laid.few) in
     let narrows : Dim → Dim = narrow c.args.at.now.arriving (length c.args.known.now) c.args.at.now.part.now.equal.items c.args.at.now.part.now.less.items (value_in c.args.at.now.pairs.now c.args.at.now.part.now c.args.at.now.arriving c.args.at.now.row.now c.args.known.now) in
     let d : Dim = get_or full c.dims.dim-index none in
-    let n = c.in-Some.fixed in
-    let fits = place-fits narrows full c.dims.dims.items c.dims.dim-index c.dims.place c.dims.invariant d none n c.dims-test.true refl c.in-Some.ensures.is c.in-Some.ensures.one c.in-Some.ensures.low c.in-Some.ensures.high are-full few in
+    let n = c.in-Some-pinned.fixed in
+    let fits64 : SFits w64 c.value_in.result = search rules in
+    let same : to_z w64 (of_z w64 c.value_in.result) ≡ c.value_in.result = omega (arith, ints) in
+    let so : IsFixed d (narrows d) n = fixed-narrow c.args.at.now.arriving (length c.args.known.now) c.args.at.now.part.now.equal.items c.args.at.now.part.now.less.items (value_in c.args.at.now.pairs.now c.args.at.now.part.now c.args.at.now.arriving c.args.at.now.row.now c.args.known.now) d c.in-Some.column n
+    (ap (binding_column c.args.at.now.arriving (length c.args.known.now) d.attr) (sym c.as_slice-links.ensures.value) ∙ sym c.binding_column.ensures ∙ c.in-Some.is)
+    (c.in-Some-pinned.ensures.0 ∙ ap (narrowed_to d) (same ∙ c.value_in.ensures))
+    c.in-Some-pinned.ensures.1 in
+    let fits = place-fits narrows full c.dims.dims.items c.dims.dim-index c.dims.place c.dims.invariant d none n c.dims-test.true refl so.is so.one so.low so.high are-full few in
     let x : c.dims.place * c.dim_size.result ≡ c.dims.place * dim_size d = ap (λ k. c.dims.place * k) c.dim_size.ensures in
     omega (arith, fits, x, c.offset_of.ensures)
 
@@ -59,9 +75,15 @@ dims-preserved c =
     let few : box_size full < 2 ^ 32 = omega (arith, size, c.requires.laid.size, c.requires.laid.few) in
     let narrows : Dim → Dim = narrow c.args.at.now.arriving (length c.args.known.now) c.args.at.now.part.now.equal.items c.args.at.now.part.now.less.items (value_in c.args.at.now.pairs.now c.args.at.now.part.now c.args.at.now.arriving c.args.at.now.row.now c.args.known.now) in
     let d : Dim = get_or full c.dims.dim-index none in
-    let n = c.in-Some.fixed in
+    let n = c.in-Some-pinned.fixed in
+    let fits64 : SFits w64 c.value_in.result = search rules in
+    let same : to_z w64 (of_z w64 c.value_in.result) ≡ c.value_in.result = omega (arith, ints) in
+    let so : IsFixed d (narrows d) n = fixed-narrow c.args.at.now.arriving (length c.args.known.now) c.args.at.now.part.now.equal.items c.args.at.now.part.now.less.items (value_in c.args.at.now.pairs.now c.args.at.now.part.now c.args.at.now.arriving c.args.at.now.row.now c.args.known.now) d c.in-Some.column n
+    (ap (binding_column c.args.at.now.arriving (length c.args.known.now) d.attr) (sym c.as_slice-links.ensures.value) ∙ sym c.binding_column.ensures ∙ c.in-Some.is)
+    (c.in-Some-pinned.ensures.0 ∙ ap (narrowed_to d) (same ∙ c.value_in.ensures))
+    c.in-Some-pinned.ensures.1 in
     subst (λ (m : ℕ). SoFixed narrows full c.push.new.self.items (c.dims.dim-index + 1) m) (λ k. c.dims.place * sym c.dim_size.ensures k + sym c.offset_of.ensures k)
-    (fixed-next narrows full c.dims.dims.items c.dims.dim-index c.dims.place c.dims.invariant d none n c.dims-test.true refl c.in-Some.ensures.is c.in-Some.ensures.one c.in-Some.ensures.low c.in-Some.ensures.high c.push.new.self.items c.push.ensures.items)
+    (fixed-next narrows full c.dims.dims.items c.dims.dim-index c.dims.place c.dims.invariant d none n c.dims-test.true refl so.is so.one so.low so.high c.push.new.self.items c.push.ensures.items)
 
 pub overflow_add-result : goal.overflow_add-result
 overflow_add-result c =

@@ -3,7 +3,6 @@ use Rattle.std.specs.Int.{bit_at}
 use Rattle.std.proofs.lemmas.Bool.{cases_eq, cases_lt}
 use Rattle.std.proofs.lemmas.Nat.Bits.{bit_at-zero}
 use Rattle.std.proofs.lemmas.List.{length-set, get_or-set_same, get_or-set_other, with_items_is}
-use Rattle.std.specs.Vec.{with_items}
 use Rattle.sem_query.specs.Meaning.{Arrival}
 use Rattle.exec_query.specs.Executor.{ExecutorValue, arrival, waiting_in}
 use Rattle.exec_registry.specs.declared.queries.Runner.{Runner}
@@ -12,11 +11,12 @@ use Rattle.exec_registry.specs.Counted.{shown, run_to, IsCounted}
 use Rattle.exec_registry.specs.Registry.{most_reads, most_writes}
 use Rattle.exec_registry.specs.RowByQuery.{TookFirst, TookOne}
 use Rattle.exec_registry.specs.Waiting.{AreQuiet}
-use Rattle.exec_registry.proofs.SideBySide.{under, under_same, under_names}
+use Rattle.exec_registry.proofs.SideBySide.{under, under_same}
 use Rattle.exec_registry.proofs.Shown.{sized, size_run}
 use Rattle.exec_registry.proofs.InTurn.{took_none, sum_more}
 use Rattle.exec_registry.proofs.BitsLeft.{left_all, left_next, left_between, left_more, none_after}
-use Rattle.exec_registry.proofs.Spared.{step_ready, step_keeps, step_plan, step_took, ahead_waits, all_took, all_counted, wrapped, few_rows, shown_waits, wrapped_counted, sum_front}
+use Rattle.exec_registry.proofs.Ended.{ended}
+use Rattle.exec_registry.proofs.Spared.{step_ready, step_keeps, step_plan, step_took, ahead_waits, sum_front}
 use Rattle.exec_registry.proofs.taking.apply_to_each.Goals as goal
 
 pub bits-init : goal.bits-init
@@ -151,21 +151,12 @@ returns-clause-taken g c =
     let r : Arrival = arrival c.args.stream c.args.row.now.items in
     let rows : ℕ = c.live.inside.rows in
     let rs : List Runner = c.bits.runners in
-    let before : List Live = c.args.live.now in
+    let later : ℕ = (rows + 1) % 2 ^ 64 in
     let none = none_after c.args.asked.word c.bits.left c.bits.next (search rules) i.left c.bits-test.false in
-    let t : TookFirst r (length before) c.args.pool.now c.bits.pool before (under before (shown (rows + 1) rs))
-    = all_took r c.args.pool.now c.bits.pool before rows rs i.size c.requires.few c.requires.keeps c.bits.next i.live i.order
-    (λ j l a b. c.requires.spared.refused j l b (none j a)) (λ j l a b. c.requires.spared.quiet j l b (none j a)) in
-    let counted : All (IsCounted (rows + 1)) rs = all_counted r c.args.pool.now c.bits.pool before rows rs i.size (length before) t i.behind in
     let kept = with_items_is c.live.inside.runners rs (c.bits.auto.runners ∙ c.as_mut_slice-runners.ensures.len) in
-    let names : List (List ℕ) = c.live.inside.names.keys in
-    let next : c.one_more-live-inside.result ≡ (rows + 1) % 2 ^ 64 = c.one_more-live-inside.ensures in
-    let seen : under before (shown (rows + 1) rs) ≡ live_of names (shown c.one_more-live-inside.result (with_items c.live.inside.runners rs).items)
-    = under_names names (shown rows c.live.inside.runners.items) (shown (rows + 1) rs) before (sized rows names c.live.inside.runners.items c.live.invariant.0) c.live.view_is
-    ∙ ap (λ (es : List ExecutorValue). live_of names es) (sym (wrapped rows rs (few_rows rows rs counted)))
-    ∙ ap (λ (n : ℕ). live_of names (shown n rs)) (sym next)
-    ∙ ap (λ (xs : List Runner). live_of names (shown c.one_more-live-inside.result xs)) (sym kept) in
-    subst (λ (now : List Live). TookFirst r (length before) c.args.pool.now c.bits.pool before now) seen t
+    let h = ended r c.args.pool.now c.args.live.now c.live.inside.names.keys rows c.live.inside.runners.items later c.args.asked.word c.live.invariant.0 c.live.view_is c.requires.few c.requires.keeps c.requires.spared
+    c.bits.pool rs c.bits.waiting c.bits.next refl i.size i.live i.order none i.behind i.only i.quiet in
+    subst (λ (xs : List Runner). TookFirst r (length c.args.live.now) c.args.pool.now c.bits.pool c.args.live.now (live_of c.live.inside.names.keys (shown later xs))) (sym kept) h.taken
 
 pub returns-clause-waiting : goal.returns-clause-waiting
 returns-clause-waiting g c =
@@ -173,34 +164,12 @@ returns-clause-waiting g c =
     let r : Arrival = arrival c.args.stream c.args.row.now.items in
     let rows : ℕ = c.live.inside.rows in
     let rs : List Runner = c.bits.runners in
-    let before : List Live = c.args.live.now in
+    let later : ℕ = (rows + 1) % 2 ^ 64 in
     let none = none_after c.args.asked.word c.bits.left c.bits.next (search rules) i.left c.bits-test.false in
-    let t : TookFirst r (length before) c.args.pool.now c.bits.pool before (under before (shown (rows + 1) rs))
-    = all_took r c.args.pool.now c.bits.pool before rows rs i.size c.requires.few c.requires.keeps c.bits.next i.live i.order
-    (λ j l a b. c.requires.spared.refused j l b (none j a)) (λ j l a b. c.requires.spared.quiet j l b (none j a)) in
-    let counted : All (IsCounted (rows + 1)) rs = all_counted r c.args.pool.now c.bits.pool before rows rs i.size (length before) t i.behind in
     let kept = with_items_is c.live.inside.runners rs (c.bits.auto.runners ∙ c.as_mut_slice-runners.ensures.len) in
-    let names : List (List ℕ) = c.live.inside.names.keys in
-    let next : c.one_more-live-inside.result ≡ (rows + 1) % 2 ^ 64 = c.one_more-live-inside.ensures in
-    let seen : under before (shown (rows + 1) rs) ≡ live_of names (shown c.one_more-live-inside.result (with_items c.live.inside.runners rs).items)
-    = under_names names (shown rows c.live.inside.runners.items) (shown (rows + 1) rs) before (sized rows names c.live.inside.runners.items c.live.invariant.0) c.live.view_is
-    ∙ ap (λ (es : List ExecutorValue). live_of names es) (sym (wrapped rows rs (few_rows rows rs counted)))
-    ∙ ap (λ (n : ℕ). live_of names (shown n rs)) (sym next)
-    ∙ ap (λ (xs : List Runner). live_of names (shown c.one_more-live-inside.result xs)) (sym kept) in
-    let size = t.size in
-    let many = i.size in
-    let order = i.order in
-    subst (λ (now : List Live). AreQuiet c.bits.waiting now) seen record {
-      only = λ k on. (let f = i.only k on in omega (arith, f, order, size));
-      quiet = λ k d a off.
-          (let within : k < length rs = omega (arith, a, size, many) in
-          let ρ : Runner = record { executor = d.executor; before = 0 } in
-          shown_waits before (rows + 1) rs k d ρ many within
-          ∙ elim (cases_lt k c.bits.next) [
-            | inl h ↦ i.quiet k ρ h within off
-            | inr h ↦ ahead_waits r c.args.pool.now c.bits.pool before rows rs many c.bits.next i.live k ρ h within (λ l. c.requires.spared.quiet k l (omega (arith, within, many)) (none k h))
-          ]);
-    }
+    let h = ended r c.args.pool.now c.args.live.now c.live.inside.names.keys rows c.live.inside.runners.items later c.args.asked.word c.live.invariant.0 c.live.view_is c.requires.few c.requires.keeps c.requires.spared
+    c.bits.pool rs c.bits.waiting c.bits.next refl i.size i.live i.order none i.behind i.only i.quiet in
+    subst (λ (xs : List Runner). AreQuiet c.bits.waiting (live_of c.live.inside.names.keys (shown later xs))) (sym kept) h.quiet
 
 pub invariant_of-live : goal.invariant_of-live
 invariant_of-live g c =
@@ -208,17 +177,9 @@ invariant_of-live g c =
     let r : Arrival = arrival c.args.stream c.args.row.now.items in
     let rows : ℕ = c.live.inside.rows in
     let rs : List Runner = c.bits.runners in
-    let before : List Live = c.args.live.now in
+    let later : ℕ = (rows + 1) % 2 ^ 64 in
     let none = none_after c.args.asked.word c.bits.left c.bits.next (search rules) i.left c.bits-test.false in
-    let t : TookFirst r (length before) c.args.pool.now c.bits.pool before (under before (shown (rows + 1) rs))
-    = all_took r c.args.pool.now c.bits.pool before rows rs i.size c.requires.few c.requires.keeps c.bits.next i.live i.order
-    (λ j l a b. c.requires.spared.refused j l b (none j a)) (λ j l a b. c.requires.spared.quiet j l b (none j a)) in
-    let counted : All (IsCounted (rows + 1)) rs = all_counted r c.args.pool.now c.bits.pool before rows rs i.size (length before) t i.behind in
     let kept = with_items_is c.live.inside.runners rs (c.bits.auto.runners ∙ c.as_mut_slice-runners.ensures.len) in
-    let many = i.size in
-    let next : c.one_more-live-inside.result ≡ (rows + 1) % 2 ^ 64 = c.one_more-live-inside.ensures in
-    let size = size_run rows c.live.inside.names.keys c.live.inside.runners.items before c.live.invariant.0 c.live.view_is in (
-      c.live.invariant.0 ∙ size ∙ sym many ∙ ap (λ (xs : List Runner). length xs) (sym kept),
-      subst (λ (n : ℕ). All (IsCounted n) (with_items c.live.inside.runners rs).items) (sym next)
-          (subst (λ (xs : List Runner). All (IsCounted ((rows + 1) % 2 ^ 64)) xs) (sym kept) (wrapped_counted rows rs counted)),
-    )
+    let h = ended r c.args.pool.now c.args.live.now c.live.inside.names.keys rows c.live.inside.runners.items later c.args.asked.word c.live.invariant.0 c.live.view_is c.requires.few c.requires.keeps c.requires.spared
+    c.bits.pool rs c.bits.waiting c.bits.next refl i.size i.live i.order none i.behind i.only i.quiet in
+    (h.sized ∙ ap (λ (xs : List Runner). length xs) (sym kept), subst (λ (xs : List Runner). All (IsCounted later) xs) (sym kept) h.counted)

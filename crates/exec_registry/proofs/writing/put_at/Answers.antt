@@ -1,49 +1,70 @@
-use Rattle.std.proofs.Common.{◌∙◌, List, arith, sym, ap, subst}
-use Rattle.std.proofs.lemmas.List.{length-set}
+use Rattle.std.proofs.Common.{ℕ, ◌<◌, List, length, arith, refl, sym, ap, subst}
+use Rattle.exec_answer_lines.specs.Gathering.{Gathers}
 use Rattle.exec_query.specs.Executor.{ExecutorValue}
-use Rattle.exec_registry.specs.Live.{Live, live_of, named}
-use Rattle.exec_registry.specs.Counted.{run_to, shown, IsCounted}
+use Rattle.exec_registry.specs.declared.queries.Runner.{Runner}
+use Rattle.exec_registry.specs.Live.{Live, named}
+use Rattle.exec_registry.specs.Counted.{run_to, shown}
 use Rattle.exec_registry.specs.Registry.{waiting_text}
-use Rattle.exec_registry.specs.Written.{GathersNext, WroteOne}
-use Rattle.exec_registry.proofs.SideBySide.{live_named, set_named}
-use Rattle.exec_registry.proofs.Shown.{sized, size_run, run_stands, counted_at, shown_set, all_set}
+use Rattle.exec_registry.specs.Written.{GathersNext}
+use Rattle.exec_registry.proofs.InWriting.{wrote_at}
+use Rattle.exec_registry.proofs.SideBySide.{live_named, name_there}
+use Rattle.exec_registry.proofs.Shown.{sized, size_run, run_stands}
+use Rattle.exec_registry.proofs.writing.put_at.Goals.{in-Ok, in-Err}
 use Rattle.exec_registry.proofs.writing.put_at.Goals as goal
 
-pub name_at-name-requires : goal.name_at-name-requires
-name_at-name-requires g c =
+pub unwrap-name-requires : goal.unwrap-name-requires
+unwrap-name-requires g c =
     let size = size_run c.live.inside.rows c.live.inside.names.keys c.live.inside.runners.items c.args.live.now c.live.invariant.0 c.live.view_is in
-    omega (arith, c.requires.there, size, c.live.invariant.0)
-
-pub put_next-requires-clause-counted : goal.put_next-requires-clause-counted
-put_next-requires-clause-counted g c =
-    let size = size_run c.live.inside.rows c.live.inside.names.keys c.live.inside.runners.items c.args.live.now c.live.invariant.0 c.live.view_is in
-    counted_at c.live.inside.rows c.live.inside.runners.items c.args.place c.index_mut-runner.result.now (omega (arith, c.requires.there, size)) c.index_mut-runner.ensures.value c.live.invariant.1
-
-pub invariant_of-live : goal.invariant_of-live
-invariant_of-live g c = (
-  c.live.invariant.0 ∙ sym (length-set c.live.inside.runners.items c.args.place c.put_next.new.runner),
-  all_set (IsCounted c.live.inside.rows) c.live.inside.runners.items c.args.place c.put_next.new.runner c.live.invariant.1 c.put_next.ensures.counted,
-)
+    let here : c.args.place < length c.live.inside.names.keys = omega (arith, c.requires.there, size, c.live.invariant.0) in
+    c.get_index.ensures.found.1 here
 
 pub returns-clause-gathered : goal.returns-clause-gathered
 returns-clause-gathered g c = λ l.
-    let size = size_run c.live.inside.rows c.live.inside.names.keys c.live.inside.runners.items c.args.live.now c.live.invariant.0 c.live.view_is in
-    let same = sized c.live.inside.rows c.live.inside.names.keys c.live.inside.runners.items c.live.invariant.0 in
-    let stands = run_stands c.live.inside.rows c.live.inside.runners.items c.args.place c.index_mut-runner.result.now (omega (arith, c.requires.there, size)) c.index_mut-runner.ensures.value in
-    let at = live_named c.live.inside.names.keys (shown c.live.inside.rows c.live.inside.runners.items) c.args.live.now c.args.place c.name_at-name.result.now (run_to c.live.inside.rows c.index_mut-runner.result.now) l same c.live.view_is c.name_at-name.ensures stands in
-    subst (λ (x : Live). GathersNext c.args.gathered c.put_next.result (g.O.Sink.seen c.args.out.now) (g.O.Sink.seen c.put_next.new.out) c.args.lines.now c.put_next.new.lines (waiting_text x)) (sym at) c.put_next.ensures.gathered
+    let rows : ℕ = c.live.inside.rows in
+    let names : List (List ℕ) = c.live.inside.names.keys in
+    let items : List Runner = c.live.inside.runners.items in
+    let own : Runner = c.index_mut-runner.result.now in
+    let name : List ℕ = c.unwrap-name.result.now in
+    let size = size_run rows names items c.args.live.now c.live.invariant.0 c.live.view_is in
+    let there = name_there names c.args.place c.get_index.result c.unwrap-name.result c.get_index.ensures.key c.unwrap-name.ensures in
+    let stands = run_stands rows items c.args.place own (omega (arith, c.requires.there, size)) c.index_mut-runner.ensures.value in
+    let at = live_named names (shown rows items) c.args.live.now c.args.place name (run_to rows own) l (sized rows names items c.live.invariant.0) c.live.view_is there stands in
+    subst (λ (x : Live). GathersNext c.args.gathered c.match-gathered.result (g.O.Sink.seen c.args.out.now) (g.O.Sink.seen c.match-gathered.out) c.args.lines.now c.match-gathered.lines (waiting_text x)) (sym at)
+    (elim c.match-gathered.branch [
+      | in-Ok w ↦ rw (w.in-Ok.is, w.result-is, w.out-is, w.lines-is)
+          (subst (λ (e : ExecutorValue). Gathers w.emit.result (g.O.Sink.seen c.args.out.now) (g.O.Sink.seen w.emit.new.out) c.args.lines.now w.emit.new.lines (waiting_text (named name e))) c.pass.ensures w.emit.ensures.gathers)
+      | in-Err w ↦ rw w.in-Err.is (w.result-is, ap g.O.Sink.seen w.out-is)
+    ])
 
 pub returns-clause-wrote : goal.returns-clause-wrote
 returns-clause-wrote g c =
-    let size = size_run c.live.inside.rows c.live.inside.names.keys c.live.inside.runners.items c.args.live.now c.live.invariant.0 c.live.view_is in
-    let same = sized c.live.inside.rows c.live.inside.names.keys c.live.inside.runners.items c.live.invariant.0 in
-    let stands = run_stands c.live.inside.rows c.live.inside.runners.items c.args.place c.index_mut-runner.result.now (omega (arith, c.requires.there, size)) c.index_mut-runner.ensures.value in
-    let later : ExecutorValue = run_to c.live.inside.rows c.put_next.new.runner in
-    let l' : Live = named c.name_at-name.result.now later in
-    record {
-      live = l';
-      wrote = λ l. subst (λ (x : Live). WroteOne x l')
-          (sym (live_named c.live.inside.names.keys (shown c.live.inside.rows c.live.inside.runners.items) c.args.live.now c.args.place c.name_at-name.result.now (run_to c.live.inside.rows c.index_mut-runner.result.now) l same c.live.view_is c.name_at-name.ensures stands)) c.put_next.ensures.wrote;
-      set = ap (λ (es : List ExecutorValue). live_of c.live.inside.names.keys es) (shown_set c.live.inside.rows c.live.inside.runners.items c.args.place c.put_next.new.runner)
-          ∙ set_named c.live.inside.names.keys (shown c.live.inside.rows c.live.inside.runners.items) c.args.live.now c.args.place c.name_at-name.result.now later same c.live.view_is c.name_at-name.ensures;
-    }
+    let rows : ℕ = c.live.inside.rows in
+    let names : List (List ℕ) = c.live.inside.names.keys in
+    let items : List Runner = c.live.inside.runners.items in
+    let own : Runner = c.index_mut-runner.result.now in
+    let name : List ℕ = c.unwrap-name.result.now in
+    let size = size_run rows names items c.args.live.now c.live.invariant.0 c.live.view_is in
+    let within : c.args.place < length items = omega (arith, c.requires.there, size) in
+    let there = name_there names c.args.place c.get_index.result c.unwrap-name.result c.get_index.ensures.key c.unwrap-name.ensures in
+    elim c.match-gathered.branch [
+      | in-Ok w ↦ rw w.live-inside-is
+          (wrote_at names items rows c.args.place c.args.live.now name own (record { executor = w.emit.new.self; before = own.before }) c.pass.new.self
+          c.live.invariant.0 c.live.view_is there within c.index_mut-runner.ensures.value c.pass.ensures refl w.emit.ensures.same record {
+            name = refl;
+            none = w.emit.ensures.none;
+            same = w.emit.ensures.same;
+            kept = w.emit.ensures.kept;
+            within = w.emit.ensures.within;
+            bases = w.emit.ensures.bases;
+          })
+      | in-Err w ↦ rw w.live-inside-is
+          (wrote_at names items rows c.args.place c.args.live.now name own (record { executor = w.give_up.new.self; before = own.before }) c.pass.new.self
+          c.live.invariant.0 c.live.view_is there within c.index_mut-runner.ensures.value c.pass.ensures refl w.give_up.ensures.same record {
+            name = refl;
+            none = w.give_up.ensures.none;
+            same = w.give_up.ensures.same;
+            kept = w.give_up.ensures.kept;
+            within = w.give_up.ensures.within;
+            bases = w.give_up.ensures.bases;
+          })
+    ]

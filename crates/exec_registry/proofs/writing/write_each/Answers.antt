@@ -7,7 +7,7 @@ use Rattle.exec_registry.specs.Registry.{waiting_text}
 use Rattle.exec_registry.specs.Written.{WroteFirst, GathersNext, GatheredSo}
 use Rattle.exec_registry.proofs.BitsLeft.{left_all, left_next, left_between, left_more, none_after}
 use Rattle.exec_registry.proofs.Quiet.{wrote_skip, wrote_rest, text_skip, text_all}
-use Rattle.exec_registry.proofs.InWriting.{wrote_none, wrote_more, gathered_next, gathered_all}
+use Rattle.exec_registry.proofs.InWriting.{wrote_none, wrote_more, gathered_next, gathered_all, gathered_fault}
 use Rattle.exec_registry.proofs.writing.write_each.Goals as goal
 
 pub bits-init : goal.bits-init
@@ -58,12 +58,19 @@ bits-smaller g c =
     let le = next.0 in
     omega (arith, le, few)
 
-pub returns-clause-written : goal.returns-clause-written
-returns-clause-written g c =
+pub returns-in-Ok-clause-written : goal.returns-in-Ok-clause-written
+returns-in-Ok-clause-written g c =
     let before : List Live = c.args.live.now in
-    gathered_all c.bits.gathered _ _ _ _ _ _ _ (text_all c.bits.next before (λ i l a b. c.requires.quiet.quiet i l b (none_after c.args.word c.bits.left c.bits.next (search rules) c.bits.invariant.left c.bits-test.false i a))) c.bits.invariant.gathered c.write_gathered.ensures
+    let text = text_all c.bits.next before (λ i l a b. c.requires.quiet.quiet i l b (none_after c.args.word c.bits.left c.bits.next (search rules) c.bits.invariant.left c.bits-test.false i a)) in
+    gathered_all c.bits.gathered c.flush.result _ _ _ _ _ _ _ c.in-Ok.is text c.bits.invariant.gathered c.flush.ensures.written
 
-pub returns-clause-wrote : goal.returns-clause-wrote
-returns-clause-wrote g c =
-    let before : List Live = c.args.live.now in
-    wrote_rest c.bits.next before c.bits.live c.bits.invariant.wrote (λ i l a b. c.requires.quiet.quiet i l b (none_after c.args.word c.bits.left c.bits.next (search rules) c.bits.invariant.left c.bits-test.false i a))
+pub returns-in-Err-clause-written : goal.returns-in-Err-clause-written
+returns-in-Err-clause-written g c = gathered_fault c.bits.gathered c.in-Err.fault _ _ _ _ _ c.in-Err.is c.bits.invariant.gathered
+
+pub returns-in-Ok-clause-wrote : goal.returns-in-Ok-clause-wrote
+returns-in-Ok-clause-wrote g c =
+    wrote_rest c.bits.next c.args.live.now c.bits.live c.bits.invariant.wrote (λ i l a b. c.requires.quiet.quiet i l b (none_after c.args.word c.bits.left c.bits.next (search rules) c.bits.invariant.left c.bits-test.false i a))
+
+pub returns-in-Err-clause-wrote : goal.returns-in-Err-clause-wrote
+returns-in-Err-clause-wrote g c =
+    wrote_rest c.bits.next c.args.live.now c.bits.live c.bits.invariant.wrote (λ i l a b. c.requires.quiet.quiet i l b (none_after c.args.word c.bits.left c.bits.next (search rules) c.bits.invariant.left c.bits-test.false i a))

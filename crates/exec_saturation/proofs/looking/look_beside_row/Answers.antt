@@ -12,15 +12,16 @@ use Rattle.sem_query.specs.Numbers.{parts_of}
 use Rattle.exec_pool.specs.Extents.{cells_of}
 use Rattle.exec_saturation.specs.declared.saturation.Saturation.TheVariants as saturation
 use Rattle.exec_saturation.specs.Known.{AreSaturated}
-use Rattle.exec_saturation.specs.Looking.{CanLookAt, HasMoved, HasLookedBeside}
+use Rattle.exec_saturation.specs.Looking.{CanLook, CanLookAt, HasMoved, HasLookedBeside, work_of}
 use Rattle.exec_saturation.proofs.looking.look_beside_row.Goals as goal
 
 pub look_on-requires-clause-look : goal.look_on-requires-clause-look
 look_on-requires-clause-look g c =
     let q = c.args.all.now.q.now in
     let two : length q.from ≡ 2 = (let n = ap length c.from.ensures.value in let t = c.if-from-ne2.false in omega (arith, n, t)) in
-    subst (λ p. CanLookAt q p c.args.all.now.prepared.now c.args.pool.now c.args.all.now.extent.now c.args.all.now.table.now.width) c.in-Parts.is c.requires.look
-    (sym c.distinct.ensures ∙ c.if-not-distinct.false) two
+    subst (λ (m : ℕ). CanLook q c.in-Parts.parts c.args.all.now.prepared.now c.args.pool.now c.args.all.now.extent.now c.args.all.now.table.now.width m) (sym (ap work_of c.in-Parts.is))
+    (subst (λ p. CanLookAt q p c.args.all.now.prepared.now c.args.pool.now c.args.all.now.extent.now c.args.all.now.table.now.width) c.in-Parts.is c.requires.look
+    (sym c.distinct.ensures ∙ c.if-not-distinct.false) two)
 
 pub look_on-requires-clause-known : goal.look_on-requires-clause-known
 look_on-requires-clause-known g c =
@@ -58,6 +59,9 @@ returns-in-Parts-clause-moves g c d two =
     let q = c.args.all.now.q.now in
     let read = read_from (cells_of c.args.pool.now c.args.all.now.extent.now) in
     let table = tuples_of c.args.all.now.table.now.entries in
-    let moved = subst (λ (w : ℕ). HasMoved c.args.cursor (2 * w - w / 2) c.in-Parts.numbers.work c.look_on.result) c.from-work.ensures c.look_on.ensures.moves in
+    let work = c.in-Parts.numbers.work in
+    let most : HasMoved c.args.cursor (2 * c.from-work.result - c.from-work.result / 2) work c.look_on.result
+    = subst (λ (m : ℕ). HasMoved c.args.cursor (2 * c.from-work.result - c.from-work.result / 2) m c.look_on.result) (ap work_of c.in-Parts.is) c.look_on.ensures.moves in
+    let moved = subst (λ (w : ℕ). HasMoved c.args.cursor (2 * w - w / 2) work c.look_on.result) c.from-work.ensures most in
     named-so q c.args.all.now.plan.now read table _ c.args.cursor c.look_on.result named
     (subst (λ (p : Plan). HasLookedBeside q p read table true c.args.cursor c.look_on.result) (sym c.in-Parts.is) (moved, c.look_on.ensures.open))

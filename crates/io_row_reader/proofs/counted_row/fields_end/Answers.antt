@@ -1,15 +1,14 @@
-use Rattle.std.proofs.Common.{◌+◌, ◌≤◌, ◌∙◌, List, ℕ, length, map, take, drop, ap, arith}
-use lib.Lanes.{mask_l}
+use Rattle.std.proofs.Common.{◌+◌, ◌≤◌, length, take, drop, arith}
 use lib.Count.{count_trailing_zeros}
 use Rattle.io_row_reader.proofs.MarkedFields.{marked_begin, marked_more, marked_rest, some_marked}
-use Rattle.io_row_reader.proofs.PairEnds.{mark_next, other}
+use Rattle.io_row_reader.proofs.PairEnds.{mark_next}
 use Rattle.io_row_reader.proofs.RowsCounted.{some_last}
 use Rattle.io_row_reader.proofs.counted_row.fields_end.Goals as goal
 
 pub fields-init : goal.fields-init
 fields-init c =
     marked_begin c.args.text.now c.args.start c.marks_of-marks.result (omega (arith, c.if-text-start-lt-LANES.false, c.requires.here))
-    (c.marks_of-marks.ensures ∙ ap (λ (l : List ℕ). mask_l (map other l)) c.lanes_from.ensures)
+    (c.marks_of-marks.ensures)
 
 pub returns-then-marks-eq0 : goal.returns-then-marks-eq0
 returns-then-marks-eq0 c =
@@ -19,8 +18,8 @@ pub returns-then-end-place : goal.returns-then-end-place
 returns-then-end-place c =
     marked_rest c.args.text.now c.args.start c.fields.place c.fields.read c.fields.marks c.args.width c.fields.invariant c.fields-test.true c.any_fields_end-then-end-place.result c.any_fields_end-then-end-place.ensures
 
-pub bounds-text-start : goal.bounds-text-start
-bounds-text-start c =
+pub bounds-text-start-in-fields : goal.bounds-text-start-in-fields
+bounds-text-start-in-fields c =
     let next = mark_next (take 16 (drop c.args.start c.args.text.now)) c.fields.place c.fields.marks c.fields.invariant.marked (omega (arith, c.if-marks-eq0.false)) in
     omega (arith, next.within, c.if-text-start-lt-LANES.false, c.requires.here)
 

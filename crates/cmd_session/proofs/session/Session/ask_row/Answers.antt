@@ -1,4 +1,4 @@
-use Rattle.std.proofs.Common.{◌≡◌, ℕ, ◌+◌, ◌≤◌, true, false, nat_lt, refl, sym, ap, ◌∙◌, subst, arith}
+use Rattle.std.proofs.Common.{◌≡◌, ℕ, ◌+◌, ◌<◌, true, nat_lt, refl, sym, ap, ◌∙◌, subst, arith}
 use Rattle.std.proofs.lemmas.Bool.Decides.{nat_tests}
 use Rattle.io_streams.specs.Sink.{Writes}
 use Rattle.sem_query.specs.Meaning.{Arrival}
@@ -17,10 +17,7 @@ use Rattle.cmd_session.proofs.Keeping.{keeps_to_each}
 use Rattle.cmd_session.proofs.Short.{short_kept}
 use Rattle.cmd_session.proofs.session.Session.ask_row.Goals as goal
 
-clash : true ≡ false → ⊥
-clash p = cc
-
-less : (n m : ℕ) → nat_lt n m ≡ true → n + 1 ≤ m
+less : (n m : ℕ) → n < m → nat_lt n m ≡ true
 less n m t = grind (arith, nat_tests)
 
 pub row-requires-clause-keeps : goal.row-requires-clause-keeps
@@ -31,7 +28,7 @@ row-requires-clause-keeps g c =
 pub invariant_of-self : goal.invariant_of-self
 invariant_of-self g c = (
   record {
-    within = less c.self.inside.taken c.self.inside.limit (ap (λ (k : SessionValue). nat_lt k.taken k.limit) c.self.view_is ∙ sym c.has_room.ensures ∙ c.if-not-has_room.false);
+    within = omega (arith, c.if-self.false);
     limit = c.self.invariant.0.limit;
     given = c.emit.ensures.given (c.self.inside.taken + 1) (c.row.ensures.given c.self.inside.taken c.self.invariant.0.given);
     named = named_kept c.self.inside.catalog.streams c.row.new.self.live c.emit.new.self.live
@@ -46,7 +43,7 @@ pub returns-clause-reply : goal.returns-clause-reply
 returns-clause-reply g c = λ s stands.
     let r : Arrival = record { stream = c.args.stream; values = c.args.row.now.items } in
     let old = subst (λ (k : SessionValue). StandsFor k (one_line_more s)) (sym c.self.view_is) stands in
-    let room = sym c.has_room.ensures ∙ c.if-not-has_room.false in
+    let room : nat_lt c.args.self.now.taken c.args.self.now.limit ≡ true = ap (λ (k : SessionValue). nat_lt k.taken k.limit) (sym c.self.view_is) ∙ less c.self.inside.taken c.self.inside.limit c.if-self.false in
     let asks = ap (λ b. entry_request b (Ok (entry c.args.stream c.args.row.now.items))) room in
     let stood = c.row.ensures.stands s.queries old.queries in
     given c.emit.result c.outcome_of.result s _ (plain (taken c.args.stream c.args.row.now.items)) _ _ _ c.outcome_of.ensures

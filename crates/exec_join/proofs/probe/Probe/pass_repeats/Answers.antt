@@ -1,4 +1,5 @@
-use Rattle.std.proofs.Common.{arith}
+use Rattle.std.proofs.Common.{◌≡◌, ◌∙◌, true, sym, arith, rules}
+use Rattle.exec_join.specs.Repeats.{IsTold}
 use Rattle.exec_join.specs.Remaining.{left_of}
 use Rattle.exec_join.proofs.RepeatLaws.{none-passed, more-passed, level-passed}
 use Rattle.exec_join.proofs.probe.Probe.pass_repeats.Goals as goal
@@ -13,10 +14,13 @@ levels-init c =
 
 pub levels-preserved : goal.levels-preserved
 levels-preserved c =
+    let p = c.levels.self in
+    let distinct : c.args.q.now.distinct ≡ true = sym c.distinct.ensures ∙ c.if-not-distinct.false in
+    let told : IsTold p.pairs.now.items c.args.q.now.select c.args.part.now p.arriving p.row.now.items p.room.now.chosen.items c.args.tuple.now.items = search rules in
     record {
       underway = c.retreat.ensures.underway;
       left = λ read.
           more-passed c.args.q.now.distinct c.args.tuple.now.items _ _ _ (c.levels.invariant.left read)
-          (level-passed c.args.q.now.select c.args.part.now read c.levels.self c.retreat.new.self c.args.q.now.distinct c.args.tuple.now.items (c.tells.ensures.distinct c.levels-test.true) (c.tells.ensures.going c.levels-test.true) (c.tells.ensures.told c.levels-test.true) (c.retreat.ensures.left c.args.q.now.select read));
+          (level-passed c.args.q.now.select c.args.part.now read p c.retreat.new.self c.args.q.now.distinct c.args.tuple.now.items distinct c.levels-test.true told (c.retreat.ensures.left c.args.q.now.select read));
       reads = omega (arith, c.retreat.ensures.reads, c.levels.invariant.reads);
     }

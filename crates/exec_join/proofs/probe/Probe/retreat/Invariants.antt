@@ -1,19 +1,17 @@
-use Rattle.std.proofs.Common.{◌≡◌, ◌<◌, ◌≤◌, false, length, List}
+use Rattle.std.proofs.Common.{◌≡◌, ◌≤◌, false, length, List}
 use Rattle.sem_query.specs.declared.atom.Attr.{Attr}
-use Rattle.sem_query.specs.Boxes.{box_size}
 use Rattle.sem_query.specs.Combinations.{Reading}
-use Rattle.exec_join.specs.Remaining.{left_of, outer_of, reads_left, turns_left, dims_now, IsPlaced}
+use Rattle.exec_join.specs.Remaining.{outer_of, reads_left, turns_left, IsPlaced}
 use Rattle.exec_join.proofs.probe.Probe.retreat.Given as goal
 
 abbrev pub invariant-levels : goal.invariant-levels
 invariant-levels l = record {
   placed : IsPlaced l.part l.self;
-  size : l.self.over ≡ false → l.self.size ≡ box_size (dims_now l.part l.self);
-  shorter : l.self.over ≡ false → length l.self.room.now.chosen.items < length l.part.streams.items;
-  left : (select : List Attr) (read : Reading) → left_of select l.part read l.self ≡ outer_of select l.part read l.fn.self;
+  going : l.self.over ≡ false;
+  left : (select : List Attr) (read : Reading) → outer_of select l.part read l.self ≡ outer_of select l.part read l.fn.self;
   reads : reads_left l.part l.self ≤ reads_left l.part l.fn.self;
-  turns : turns_left l.part l.self < turns_left l.part l.fn.self;
+  turns : turns_left l.part l.self ≤ turns_left l.part l.fn.self;
 }
 
 abbrev pub decreases-levels : goal.decreases-levels
-decreases-levels l = turns_left l.part l.self
+decreases-levels l = length l.self.room.now.numbers.items

@@ -30,15 +30,15 @@ meet_cells-there-requires-clause-direct g c =
     let r = arrival c.args.stream c.args.row.now.items in
     let d = c.in-Some.direct.now in
     let is_direct : IsDirect e.query (parts_of e.plan) d
-    = lookup-direct e.query e.plan c.self.inside.prefilter c.self.inside.access d c.self.invariant.3 c.in-Some.ensures.0 (let s = c.in-Some.ensures.1 in let f = c.ranges.stream in omega (arith, s, f)) in
-    subst (λ (p : Plan). IsDirect e.query (parts_of p) d) c.in-Parts.is is_direct
+    = lookup-direct e.query e.plan c.self.inside.prefilter c.self.inside.access c.in-PointLookup-Parts.lookups d c.in-PointLookup-Parts.is-0 c.self.invariant.3 c.in-Some.ensures.0 (let s = c.in-Some.ensures.1 in let f = c.ranges.stream in omega (arith, s, f)) in
+    subst (λ (p : Plan). IsDirect e.query (parts_of p) d) c.in-PointLookup-Parts.is-1 is_direct
 
 pub meet_cells-there-requires-clause-ready : goal.meet_cells-there-requires-clause-ready
 meet_cells-there-requires-clause-ready g c =
     let e : ExecutorValue = record { query = c.self.inside.query; shared = c.self.inside.shared; plan = c.self.inside.plan; extent = c.self.inside.extent; given = c.self.inside.given; table = c.self.inside.table; saturation = c.self.inside.saturation } in
     let r = arrival c.args.stream c.args.row.now.items in
     let ready : IsReady e c.args.pool.now = subst (λ (x : ExecutorValue). IsReady x c.args.pool.now) (sym c.self.view_is) c.requires.ready in
-    subst (λ (p : Plan). IsPlanReady e.query p c.args.pool.now e.extent) c.in-Parts.is (ready_row e c.self.invariant.0 c.args.pool.now ready r c.self.invariant.0.ascends)
+    subst (λ (p : Plan). IsPlanReady e.query p c.args.pool.now e.extent) c.in-PointLookup-Parts.is-1 (ready_row e c.self.invariant.0 c.args.pool.now ready r c.self.invariant.0.ascends)
 
 pub take_up_anew-requires-clause-room : goal.take_up_anew-requires-clause-room
 take_up_anew-requires-clause-room g c =
@@ -46,10 +46,10 @@ take_up_anew-requires-clause-room g c =
     let r = arrival c.args.stream c.args.row.now.items in
     let d = c.in-Some.direct.now in
     let is_direct : IsDirect e.query (parts_of e.plan) d
-    = lookup-direct e.query e.plan c.self.inside.prefilter c.self.inside.access d c.self.invariant.3 c.in-Some.ensures.0 (let s = c.in-Some.ensures.1 in let f = c.ranges.stream in omega (arith, s, f)) in
+    = lookup-direct e.query e.plan c.self.inside.prefilter c.self.inside.access c.in-PointLookup-Parts.lookups d c.in-PointLookup-Parts.is-0 c.self.invariant.3 c.in-Some.ensures.0 (let s = c.in-Some.ensures.1 in let f = c.ranges.stream in omega (arith, s, f)) in
     let ready : IsReady e c.args.pool.now = subst (λ (x : ExecutorValue). IsReady x c.args.pool.now) (sym c.self.view_is) c.requires.ready in
     let answers : answered_by e.query e.plan (read_from (cells_of c.args.pool.now e.extent)) r ≡ told_by d c.args.row.now.items c.meet_cells-there.result
-    = direct-answers e.query e.plan c.in-Parts.parts c.in-Parts.numbers d is_direct c.args.stream c.in-Some.ensures.1 c.in-Parts.is (read_from (cells_of c.args.pool.now e.extent)) c.args.row.now.items ∙ c.meet_cells-there.ensures.answers in
+    = direct-answers e.query e.plan c.in-PointLookup-Parts.parts _ d is_direct c.args.stream c.in-Some.ensures.1 c.in-PointLookup-Parts.is-1 (read_from (cells_of c.args.pool.now e.extent)) c.args.row.now.items ∙ c.meet_cells-there.ensures.answers in
     let left : TableValue = with_entries e.table (cleared e.query.distinct e.table.entries) in
     subst (λ (fs : List Found). HaveRoom e.query.distinct fs left) answers (room_clear e c.self.invariant.0 c.args.pool.now ready r c.self.invariant.0.ascends e.query.distinct refl left refl)
 
@@ -59,10 +59,10 @@ invariant_of-self g c =
     let r = arrival c.args.stream c.args.row.now.items in
     let d = c.in-Some.direct.now in
     let is_direct : IsDirect e.query (parts_of e.plan) d
-    = lookup-direct e.query e.plan c.self.inside.prefilter c.self.inside.access d c.self.invariant.3 c.in-Some.ensures.0 (let s = c.in-Some.ensures.1 in let f = c.ranges.stream in omega (arith, s, f)) in
+    = lookup-direct e.query e.plan c.self.inside.prefilter c.self.inside.access c.in-PointLookup-Parts.lookups d c.in-PointLookup-Parts.is-0 c.self.invariant.3 c.in-Some.ensures.0 (let s = c.in-Some.ensures.1 in let f = c.ranges.stream in omega (arith, s, f)) in
     let ready : IsReady e c.args.pool.now = subst (λ (x : ExecutorValue). IsReady x c.args.pool.now) (sym c.self.view_is) c.requires.ready in
     let answers : answered_by e.query e.plan (read_from (cells_of c.args.pool.now e.extent)) r ≡ told_by d c.args.row.now.items c.meet_cells-there.result
-    = direct-answers e.query e.plan c.in-Parts.parts c.in-Parts.numbers d is_direct c.args.stream c.in-Some.ensures.1 c.in-Parts.is (read_from (cells_of c.args.pool.now e.extent)) c.args.row.now.items ∙ c.meet_cells-there.ensures.answers in
+    = direct-answers e.query e.plan c.in-PointLookup-Parts.parts _ d is_direct c.args.stream c.in-Some.ensures.1 c.in-PointLookup-Parts.is-1 (read_from (cells_of c.args.pool.now e.extent)) c.args.row.now.items ∙ c.meet_cells-there.ensures.answers in
     let left : TableValue = with_entries e.table (cleared e.query.distinct e.table.entries) in
     let clear : c.clear.new.table ≡ left = c.clear.ensures ∙ ap (λ b. with_entries e.table (cleared b e.table.entries)) c.distinct.ensures in
     let is : c.clear.new.table ≡ with_entries e.table (with_all e.query.distinct (answered_by e.query e.plan (read_from (cells_of c.args.pool.now e.extent)) r) (cleared e.query.distinct e.table.entries))
@@ -77,10 +77,10 @@ invariant_of-self-2 g c =
     let r = arrival c.args.stream c.args.row.now.items in
     let d = c.in-Some.direct.now in
     let is_direct : IsDirect e.query (parts_of e.plan) d
-    = lookup-direct e.query e.plan c.self.inside.prefilter c.self.inside.access d c.self.invariant.3 c.in-Some.ensures.0 (let s = c.in-Some.ensures.1 in let f = c.ranges.stream in omega (arith, s, f)) in
+    = lookup-direct e.query e.plan c.self.inside.prefilter c.self.inside.access c.in-PointLookup-Parts.lookups d c.in-PointLookup-Parts.is-0 c.self.invariant.3 c.in-Some.ensures.0 (let s = c.in-Some.ensures.1 in let f = c.ranges.stream in omega (arith, s, f)) in
     let ready : IsReady e c.args.pool.now = subst (λ (x : ExecutorValue). IsReady x c.args.pool.now) (sym c.self.view_is) c.requires.ready in
     let answers : answered_by e.query e.plan (read_from (cells_of c.args.pool.now e.extent)) r ≡ told_by d c.args.row.now.items c.meet_cells-there.result
-    = direct-answers e.query e.plan c.in-Parts.parts c.in-Parts.numbers d is_direct c.args.stream c.in-Some.ensures.1 c.in-Parts.is (read_from (cells_of c.args.pool.now e.extent)) c.args.row.now.items ∙ c.meet_cells-there.ensures.answers in
+    = direct-answers e.query e.plan c.in-PointLookup-Parts.parts _ d is_direct c.args.stream c.in-Some.ensures.1 c.in-PointLookup-Parts.is-1 (read_from (cells_of c.args.pool.now e.extent)) c.args.row.now.items ∙ c.meet_cells-there.ensures.answers in
     let left : TableValue = with_entries e.table (cleared e.query.distinct e.table.entries) in
     let is : c.take_up_anew.new.table ≡ with_entries e.table (with_all e.query.distinct (answered_by e.query e.plan (read_from (cells_of c.args.pool.now e.extent)) r) (cleared e.query.distinct e.table.entries))
     = c.take_up_anew.ensures ∙ ap (λ (fs : List Found). with_entries e.table (with_all e.query.distinct fs (cleared e.query.distinct e.table.entries))) (sym answers) in
@@ -93,10 +93,10 @@ returns-then-is_empty-clause-took g c =
     let r = arrival c.args.stream c.args.row.now.items in
     let d = c.in-Some.direct.now in
     let is_direct : IsDirect e.query (parts_of e.plan) d
-    = lookup-direct e.query e.plan c.self.inside.prefilter c.self.inside.access d c.self.invariant.3 c.in-Some.ensures.0 (let s = c.in-Some.ensures.1 in let f = c.ranges.stream in omega (arith, s, f)) in
+    = lookup-direct e.query e.plan c.self.inside.prefilter c.self.inside.access c.in-PointLookup-Parts.lookups d c.in-PointLookup-Parts.is-0 c.self.invariant.3 c.in-Some.ensures.0 (let s = c.in-Some.ensures.1 in let f = c.ranges.stream in omega (arith, s, f)) in
     let ready : IsReady e c.args.pool.now = subst (λ (x : ExecutorValue). IsReady x c.args.pool.now) (sym c.self.view_is) c.requires.ready in
     let answers : answered_by e.query e.plan (read_from (cells_of c.args.pool.now e.extent)) r ≡ told_by d c.args.row.now.items c.meet_cells-there.result
-    = direct-answers e.query e.plan c.in-Parts.parts c.in-Parts.numbers d is_direct c.args.stream c.in-Some.ensures.1 c.in-Parts.is (read_from (cells_of c.args.pool.now e.extent)) c.args.row.now.items ∙ c.meet_cells-there.ensures.answers in
+    = direct-answers e.query e.plan c.in-PointLookup-Parts.parts _ d is_direct c.args.stream c.in-Some.ensures.1 c.in-PointLookup-Parts.is-1 (read_from (cells_of c.args.pool.now e.extent)) c.args.row.now.items ∙ c.meet_cells-there.ensures.answers in
     let left : TableValue = with_entries e.table (cleared e.query.distinct e.table.entries) in
     let clear : c.clear.new.table ≡ left = c.clear.ensures ∙ ap (λ b. with_entries e.table (cleared b e.table.entries)) c.distinct.ensures in
     let is : c.clear.new.table ≡ with_entries e.table (with_all e.query.distinct (answered_by e.query e.plan (read_from (cells_of c.args.pool.now e.extent)) r) (cleared e.query.distinct e.table.entries))
@@ -105,8 +105,8 @@ returns-then-is_empty-clause-took g c =
     let table = table_later e c.self.invariant.0 c.args.pool.now ready r c.self.invariant.0.ascends e.query.distinct refl left c.clear.new.table refl is in
     let keeps : RowKeeps e.query r = subst (λ (x : ExecutorValue). RowKeeps x.query r) (sym c.self.view_is) c.requires.keeps in
     let pool : HasTaken e.query (parts_of e.plan) e.extent r (length (parts_of e.plan)) c.args.pool.now c.meet_cells-there.new.pool
-    = subst (λ (p : Plan). HasTaken e.query (parts_of p) e.extent r (length (parts_of p)) c.args.pool.now c.meet_cells-there.new.pool) (sym c.in-Parts.is)
-    (subst (λ (x : Arrival). HasTaken e.query c.in-Parts.parts e.extent x (length c.in-Parts.parts) c.args.pool.now c.meet_cells-there.new.pool)
+    = subst (λ (p : Plan). HasTaken e.query (parts_of p) e.extent r (length (parts_of p)) c.args.pool.now c.meet_cells-there.new.pool) (sym c.in-PointLookup-Parts.is-1)
+    (subst (λ (x : Arrival). HasTaken e.query c.in-PointLookup-Parts.parts e.extent x (length c.in-PointLookup-Parts.parts) c.args.pool.now c.meet_cells-there.new.pool)
     (sym (direct-arrives e.query (parts_of e.plan) d is_direct c.args.stream c.in-Some.ensures.1 c.args.row.now.items)) c.meet_cells-there.ensures.pool) in
     subst (λ (x : ExecutorValue). TakesRow x c.args.pool.now r (let o : ExecutorValue = record { query = c.self.inside.query; shared = c.self.inside.shared; plan = c.self.inside.plan; extent = c.self.inside.extent; given = c.self.inside.given + 1; table = c.clear.new.table; saturation = c.self.inside.saturation } in o) c.meet_cells-there.new.pool) c.self.view_is
     (subst (λ (t : TableValue). TakesRow e c.args.pool.now r (let o : ExecutorValue = record { query = c.self.inside.query; shared = c.self.inside.shared; plan = c.self.inside.plan; extent = c.self.inside.extent; given = c.self.inside.given + 1; table = t; saturation = c.self.inside.saturation } in o) c.meet_cells-there.new.pool) (sym table) (row-taken e c.self.invariant.0 c.args.pool.now ready r keeps c.meet_cells-there.new.pool pool))
@@ -121,13 +121,13 @@ returns-then-is_empty-clause-steps g c =
     let r = arrival c.args.stream c.args.row.now.items in
     let d = c.in-Some.direct.now in
     let is_direct : IsDirect e.query (parts_of e.plan) d
-    = lookup-direct e.query e.plan c.self.inside.prefilter c.self.inside.access d c.self.invariant.3 c.in-Some.ensures.0 (let s = c.in-Some.ensures.1 in let f = c.ranges.stream in omega (arith, s, f)) in
+    = lookup-direct e.query e.plan c.self.inside.prefilter c.self.inside.access c.in-PointLookup-Parts.lookups d c.in-PointLookup-Parts.is-0 c.self.invariant.3 c.in-Some.ensures.0 (let s = c.in-Some.ensures.1 in let f = c.ranges.stream in omega (arith, s, f)) in
     let reads : c.meet_cells-there.new.steps.reads ≤ c.args.steps.now.reads + row_reads (parts_of e.plan) + length (parts_of e.plan)
-    = subst (λ (p : Plan). c.meet_cells-there.new.steps.reads ≤ c.args.steps.now.reads + row_reads (parts_of p) + length (parts_of p)) (sym c.in-Parts.is) c.meet_cells-there.ensures.reads in
+    = subst (λ (p : Plan). c.meet_cells-there.new.steps.reads ≤ c.args.steps.now.reads + row_reads (parts_of p) + length (parts_of p)) (sym c.in-PointLookup-Parts.is-1) c.meet_cells-there.ensures.reads in
     let own : KeepsToWork e r c.args.steps.now c.meet_cells-there.new.steps
     = record {
       reads = (let few = rows-upto (parts_in e) in omega (arith, few, reads));
-      writes = subst (λ (p : Plan). c.meet_cells-there.new.steps.writes ≤ c.args.steps.now.writes + length (parts_of p)) (sym c.in-Parts.is) c.meet_cells-there.ensures.writes;
+      writes = subst (λ (p : Plan). c.meet_cells-there.new.steps.writes ≤ c.args.steps.now.writes + length (parts_of p)) (sym c.in-PointLookup-Parts.is-1) c.meet_cells-there.ensures.writes;
       alone = λ filter. absurd (direct-parts e.query e.plan d is_direct (filter-plan e.shared e.query e.plan (serving_in e c.self.invariant.0) filter));
       outside = λ none. absurd (let named = direct-named e.query (parts_of e.plan) d is_direct c.args.stream c.in-Some.ensures.1 in let no : true ≡ false = sym named ∙ none in cc);
     } in
@@ -139,18 +139,18 @@ returns-clause-took g c =
     let r = arrival c.args.stream c.args.row.now.items in
     let d = c.in-Some.direct.now in
     let is_direct : IsDirect e.query (parts_of e.plan) d
-    = lookup-direct e.query e.plan c.self.inside.prefilter c.self.inside.access d c.self.invariant.3 c.in-Some.ensures.0 (let s = c.in-Some.ensures.1 in let f = c.ranges.stream in omega (arith, s, f)) in
+    = lookup-direct e.query e.plan c.self.inside.prefilter c.self.inside.access c.in-PointLookup-Parts.lookups d c.in-PointLookup-Parts.is-0 c.self.invariant.3 c.in-Some.ensures.0 (let s = c.in-Some.ensures.1 in let f = c.ranges.stream in omega (arith, s, f)) in
     let ready : IsReady e c.args.pool.now = subst (λ (x : ExecutorValue). IsReady x c.args.pool.now) (sym c.self.view_is) c.requires.ready in
     let answers : answered_by e.query e.plan (read_from (cells_of c.args.pool.now e.extent)) r ≡ told_by d c.args.row.now.items c.meet_cells-there.result
-    = direct-answers e.query e.plan c.in-Parts.parts c.in-Parts.numbers d is_direct c.args.stream c.in-Some.ensures.1 c.in-Parts.is (read_from (cells_of c.args.pool.now e.extent)) c.args.row.now.items ∙ c.meet_cells-there.ensures.answers in
+    = direct-answers e.query e.plan c.in-PointLookup-Parts.parts _ d is_direct c.args.stream c.in-Some.ensures.1 c.in-PointLookup-Parts.is-1 (read_from (cells_of c.args.pool.now e.extent)) c.args.row.now.items ∙ c.meet_cells-there.ensures.answers in
     let left : TableValue = with_entries e.table (cleared e.query.distinct e.table.entries) in
     let is : c.take_up_anew.new.table ≡ with_entries e.table (with_all e.query.distinct (answered_by e.query e.plan (read_from (cells_of c.args.pool.now e.extent)) r) (cleared e.query.distinct e.table.entries))
     = c.take_up_anew.ensures ∙ ap (λ (fs : List Found). with_entries e.table (with_all e.query.distinct fs (cleared e.query.distinct e.table.entries))) (sym answers) in
     let table = table_later e c.self.invariant.0 c.args.pool.now ready r c.self.invariant.0.ascends e.query.distinct refl left c.take_up_anew.new.table refl is in
     let keeps : RowKeeps e.query r = subst (λ (x : ExecutorValue). RowKeeps x.query r) (sym c.self.view_is) c.requires.keeps in
     let pool : HasTaken e.query (parts_of e.plan) e.extent r (length (parts_of e.plan)) c.args.pool.now c.meet_cells-there.new.pool
-    = subst (λ (p : Plan). HasTaken e.query (parts_of p) e.extent r (length (parts_of p)) c.args.pool.now c.meet_cells-there.new.pool) (sym c.in-Parts.is)
-    (subst (λ (x : Arrival). HasTaken e.query c.in-Parts.parts e.extent x (length c.in-Parts.parts) c.args.pool.now c.meet_cells-there.new.pool)
+    = subst (λ (p : Plan). HasTaken e.query (parts_of p) e.extent r (length (parts_of p)) c.args.pool.now c.meet_cells-there.new.pool) (sym c.in-PointLookup-Parts.is-1)
+    (subst (λ (x : Arrival). HasTaken e.query c.in-PointLookup-Parts.parts e.extent x (length c.in-PointLookup-Parts.parts) c.args.pool.now c.meet_cells-there.new.pool)
     (sym (direct-arrives e.query (parts_of e.plan) d is_direct c.args.stream c.in-Some.ensures.1 c.args.row.now.items)) c.meet_cells-there.ensures.pool) in
     subst (λ (x : ExecutorValue). TakesRow x c.args.pool.now r (let o : ExecutorValue = record { query = c.self.inside.query; shared = c.self.inside.shared; plan = c.self.inside.plan; extent = c.self.inside.extent; given = c.self.inside.given + 1; table = c.take_up_anew.new.table; saturation = c.self.inside.saturation } in o) c.meet_cells-there.new.pool) c.self.view_is
     (subst (λ (t : TableValue). TakesRow e c.args.pool.now r (let o : ExecutorValue = record { query = c.self.inside.query; shared = c.self.inside.shared; plan = c.self.inside.plan; extent = c.self.inside.extent; given = c.self.inside.given + 1; table = t; saturation = c.self.inside.saturation } in o) c.meet_cells-there.new.pool) (sym table) (row-taken e c.self.invariant.0 c.args.pool.now ready r keeps c.meet_cells-there.new.pool pool))
@@ -161,13 +161,13 @@ returns-clause-steps g c =
     let r = arrival c.args.stream c.args.row.now.items in
     let d = c.in-Some.direct.now in
     let is_direct : IsDirect e.query (parts_of e.plan) d
-    = lookup-direct e.query e.plan c.self.inside.prefilter c.self.inside.access d c.self.invariant.3 c.in-Some.ensures.0 (let s = c.in-Some.ensures.1 in let f = c.ranges.stream in omega (arith, s, f)) in
+    = lookup-direct e.query e.plan c.self.inside.prefilter c.self.inside.access c.in-PointLookup-Parts.lookups d c.in-PointLookup-Parts.is-0 c.self.invariant.3 c.in-Some.ensures.0 (let s = c.in-Some.ensures.1 in let f = c.ranges.stream in omega (arith, s, f)) in
     let reads : c.meet_cells-there.new.steps.reads ≤ c.args.steps.now.reads + row_reads (parts_of e.plan) + length (parts_of e.plan)
-    = subst (λ (p : Plan). c.meet_cells-there.new.steps.reads ≤ c.args.steps.now.reads + row_reads (parts_of p) + length (parts_of p)) (sym c.in-Parts.is) c.meet_cells-there.ensures.reads in
+    = subst (λ (p : Plan). c.meet_cells-there.new.steps.reads ≤ c.args.steps.now.reads + row_reads (parts_of p) + length (parts_of p)) (sym c.in-PointLookup-Parts.is-1) c.meet_cells-there.ensures.reads in
     let own : KeepsToWork e r c.args.steps.now c.meet_cells-there.new.steps
     = record {
       reads = (let few = rows-upto (parts_in e) in omega (arith, few, reads));
-      writes = subst (λ (p : Plan). c.meet_cells-there.new.steps.writes ≤ c.args.steps.now.writes + length (parts_of p)) (sym c.in-Parts.is) c.meet_cells-there.ensures.writes;
+      writes = subst (λ (p : Plan). c.meet_cells-there.new.steps.writes ≤ c.args.steps.now.writes + length (parts_of p)) (sym c.in-PointLookup-Parts.is-1) c.meet_cells-there.ensures.writes;
       alone = λ filter. absurd (direct-parts e.query e.plan d is_direct (filter-plan e.shared e.query e.plan (serving_in e c.self.invariant.0) filter));
       outside = λ none. absurd (let named = direct-named e.query (parts_of e.plan) d is_direct c.args.stream c.in-Some.ensures.1 in let no : true ≡ false = sym named ∙ none in cc);
     } in

@@ -11,13 +11,13 @@ returns-clause-gives c =
     let n = c.args.len in
     let rest = slice_range s.chunk.items s.at s.filled in
     let told = subst (λ (l : List ℕ). IsFirstFeed l n) (sym (ap (λ (r : Reading). r.ahead) c.self.view_is)) c.requires.feed in
-    let line = ap (λ l. l ++ slice_range s.chunk.items s.at (s.at + n)) c.clear.ensures ∙ range-front s.chunk.items s.at s.filled n told.0 in
+    let line = range-front s.chunk.items s.at s.filled n told.0 in
     let later = range-later s.chunk.items s.at s.filled n told.0 in
     let inside : n < s.filled - s.at = omega (arith, told.0, short-range s.chunk.items s.at s.filled) in
     let unended : s.ended ≡ false = not-true s.ended (λ e. omega (arith, inside, (c.self.invariant.last e).0)) in
     let unfailed : s.failed ≡ false = not-true s.failed (λ e. omega (arith, inside, (c.self.invariant.lost e).0)) in
     rw (← c.self.view_is) record {
-      whole = cut-at rest n 10 told.0 told.1 ∙ ap (λ l. l ++ 10 ∷ drop (n + 1) rest) (sym line) ∙ ap (λ l. (c.clear.new.self.items ++ slice_range s.chunk.items s.at (s.at + n)) ++ 10 ∷ l) (sym later);
+      whole = cut-at rest n 10 told.0 told.1 ∙ ap (λ l. l ++ 10 ∷ drop (n + 1) rest) (sym line) ∙ ap (λ l. slice_range s.chunk.items s.at (s.at + n) ++ 10 ∷ l) (sym later);
       plain = subst IsPlain (sym line) told.2;
       short = omega (arith, ap length line, length-take n rest, c.requires.short);
       taken = refl;
@@ -33,4 +33,4 @@ returns-clause-line c =
     let n = c.args.len in
     let ahead = ap (λ (r : Reading). r.ahead) c.self.view_is in
     let told = subst (λ (l : List ℕ). IsFirstFeed l n) (sym ahead) c.requires.feed in
-    ap (λ l. l ++ slice_range s.chunk.items s.at (s.at + n)) c.clear.ensures ∙ range-front s.chunk.items s.at s.filled n told.0 ∙ ap (λ (l : List ℕ). take n l) ahead
+    range-front s.chunk.items s.at s.filled n told.0 ∙ ap (λ (l : List ℕ). take n l) ahead

@@ -1,4 +1,4 @@
-use Rattle.std.proofs.Common.{◌≡◌, ◌+◌, ◌-◌, false, ◌++◌, refl, ap, ◌∙◌, inl, arith, length}
+use Rattle.std.proofs.Common.{◌≡◌, ◌+◌, ◌-◌, false, refl, ap, ◌∙◌, arith}
 use Rattle.std.specs.List.{slice_range}
 use Rattle.io_line_reader.specs.Reading.{Reading}
 use Rattle.io_line_reader.proofs.Pieces.{not-true}
@@ -9,19 +9,19 @@ pub overflow_add-self : goal.overflow_add-self
 overflow_add-self c =
     let s = c.self.inside in
     let k = in_buffer s.chunk.items c.args.self.now.ahead s.at s.filled c.args.count c.args.begin c.args.end (ap (λ (r : Reading). r.ahead) c.self.view_is) c.requires.some c.requires.lines in
-    record { fits = omega (arith, k.0, k.2, c.self.invariant.order, c.self.invariant.inside, c.self.invariant.size) }
+    record { fits = omega (arith, k.0, k.2, c.self.invariant.order, c.self.invariant.inside, c.self.invariant.whole) }
 
 pub overflow_add-self-2 : goal.overflow_add-self-2
 overflow_add-self-2 c =
     let s = c.self.inside in
     let k = in_buffer s.chunk.items c.args.self.now.ahead s.at s.filled c.args.count c.args.begin c.args.end (ap (λ (r : Reading). r.ahead) c.self.view_is) c.requires.some c.requires.lines in
-    record { fits = omega (arith, k.0, k.2, c.self.invariant.order, c.self.invariant.inside, c.self.invariant.size) }
+    record { fits = omega (arith, k.0, k.2, c.self.invariant.order, c.self.invariant.inside, c.self.invariant.whole) }
 
 pub overflow_add-self-3 : goal.overflow_add-self-3
 overflow_add-self-3 c =
     let s = c.self.inside in
     let k = in_buffer s.chunk.items c.args.self.now.ahead s.at s.filled c.args.count c.args.begin c.args.end (ap (λ (r : Reading). r.ahead) c.self.view_is) c.requires.some c.requires.lines in
-    record { fits = omega (arith, k.0, k.2, c.self.invariant.order, c.self.invariant.inside, c.self.invariant.size) }
+    record { fits = omega (arith, k.0, k.2, c.self.invariant.order, c.self.invariant.inside, c.self.invariant.whole) }
 
 pub overflow_add-self-4 : goal.overflow_add-self-4
 overflow_add-self-4 c =
@@ -34,14 +34,13 @@ invariant_of-self c =
     let s = c.self.inside in
     let k = in_buffer s.chunk.items c.args.self.now.ahead s.at s.filled c.args.count c.args.begin c.args.end (ap (λ (r : Reading). r.ahead) c.self.view_is) c.requires.some c.requires.lines in
     record {
-      size = c.self.invariant.size;
+      whole = c.self.invariant.whole;
       feed = c.self.invariant.feed;
       order = omega (arith, k.0, c.self.invariant.order);
       inside = c.self.invariant.inside;
-      short = omega (arith, ap length c.clear.ensures);
+      near = λ place low high feed. c.self.invariant.near place (omega (arith, low)) high feed;
       span = omega (arith, k.2);
       within = omega (arith, k.0, c.self.invariant.order, c.self.invariant.inside);
-      sole = inl (ap length c.clear.ensures);
       counted = omega (arith, k.0, k.1, c.self.invariant.counted);
       last = λ e. absurd (omega (arith, k.0, k.2, (c.self.invariant.last e).0));
       lost = λ e. absurd (omega (arith, k.0, k.2, (c.self.invariant.lost e).0));
@@ -56,8 +55,7 @@ returns c =
     let last : s.at + c.args.end - 1 ≡ s.at + (c.args.end - 1) = omega (arith, k.2) in
     rw (← c.self.view_is) record {
       ahead = range-from s.chunk.items s.at s.filled c.args.end k.0;
-      line = ap (λ l. l ++ slice_range s.chunk.items (s.at + c.args.begin) (s.at + c.args.end - 1)) c.clear.ensures
-          ∙ ap (slice_range s.chunk.items (s.at + c.args.begin)) last
+      line = ap (slice_range s.chunk.items (s.at + c.args.begin)) last
           ∙ range-within s.chunk.items s.at s.filled c.args.begin (c.args.end - 1) (omega (arith, k.2)) (omega (arith, k.0));
       taken = refl;
       lines = refl;
