@@ -1,4 +1,5 @@
 -- Where the values chosen so far tell all selected columns, each find that is left at the level gives the same tuple.
+use Rattle.sem_query.specs.Parts.{pairs}
 use Rattle.std.proofs.Common.{◌≡◌, ℕ, zero, suc, ◌-◌, ◌≤◌, Bool, true, false, List, [], ◌∷◌, ◌++◌, map, take, drop, length, refl, sym, ap, ◌∙◌, subst, arith, ℤ, All, append_assoc, append-nil, if◌then◌else◌}
 use Rattle.std.specs.Prelude.{flat_map}
 use Rattle.std.specs.List.{list_all}
@@ -83,12 +84,12 @@ more-passed d t fs gs hs p r =
 
 -- the rest of a level is passed
 pub level-passed : (select : List Attr) (part : PartPlan) (read : Reading) (p r : Probe) (d : Bool) (t : List ℤ) → d ≡ true → p.over ≡ false
-    → IsTold p.pairs.now.items select part p.arriving p.row.now.items p.room.now.chosen.items t
+    → IsTold (pairs p.q.now) select part p.arriving p.row.now.items p.room.now.chosen.items t
     → left_of select part read r ≡ outer_of select part read p
     → ArePassed d t (left_of select part read p) (left_of select part read r)
 unfolding left
 level-passed select part read p r d t once o told back =
-    let w = setting p.pairs.now.items select part p.arriving p.row.now.items read in
+    let w = setting (pairs p.q.now) select part p.arriving p.row.now.items read in
     let cs = p.room.now.chosen.items in
     record {
       passed = walk_from w (length part.streams.items - length cs) cs p.next;

@@ -1,4 +1,5 @@
 -- What one turn of a probe keeps.
+use Rattle.sem_query.specs.Parts.{pairs}
 use Rattle.std.proofs.Common.{◌≡◌, ◌≢◌, ℕ, zero, suc, ◌+◌, ◌-◌, ◌*◌, ◌<◌, ◌≤◌, ◌^◌, ◌==◌, Bool, true, false, not, cond, get_or, List, [], ◌∷◌, ◌++◌, map, filter, length, drop, take, lit≤, refl, sym, ap, ◌∙◌, subst, arith, length-append, ℤ, pos, if◌then◌else◌, ◌&&◌, ◌||◌}
 use Rattle.std.specs.Prelude.{Option, Some, None, int_le, slice_index_or}
 use Rattle.std.specs.List.{list_any}
@@ -154,17 +155,17 @@ pub outer-of-back : (sel : List Attr) (part : PartPlan) (read : Reading) (p r : 
     left_of sel part read r ≡ outer_of sel part read p
 unfolding left
 outer-of-back sel part read p r (ended a b c d e f g h m zs ss) o u =
-    (λ k. left (setting r.pairs.now.items sel part r.arriving r.row.now.items read) r.room.now.chosen.items r.room.now.numbers.items r.next (e k))
-    ∙ sym ((λ k. outer (setting p.pairs.now.items sel part p.arriving p.row.now.items read) (length part.streams.items) [] (a k) p.room.now.numbers.items) ∙ outer-none (setting p.pairs.now.items sel part p.arriving p.row.now.items read) (length part.streams.items) [] p.room.now.numbers.items)
+    (λ k. left (setting (pairs r.q.now) sel part r.arriving r.row.now.items read) r.room.now.chosen.items r.room.now.numbers.items r.next (e k))
+    ∙ sym ((λ k. outer (setting (pairs p.q.now) sel part p.arriving p.row.now.items read) (length part.streams.items) [] (a k) p.room.now.numbers.items) ∙ outer-none (setting (pairs p.q.now) sel part p.arriving p.row.now.items read) (length part.streams.items) [] p.room.now.numbers.items)
 outer-of-back sel part read p r (popped c n z a b e v f g j m zs zv ss) o u =
-    let w = setting p.pairs.now.items sel part p.arriving p.row.now.items read in
+    let w = setting (pairs p.q.now) sel part p.arriving p.row.now.items read in
     let x = ap length a in
     let y = ap length b in
     let s = length-append r.room.now.chosen.items (c ∷ []) in
     let t = length-append r.room.now.numbers.items (n ∷ []) in
     let m : length r.room.now.chosen.items ≡ length r.room.now.numbers.items = omega (arith, x, y, s, t, u.same) in
     let few : length r.room.now.chosen.items < length part.streams.items = omega (arith, x, s, u.few) in
-    (λ k. left (setting (j k).now.items sel part (f k) (g k).now.items read) r.room.now.chosen.items r.room.now.numbers.items (e k) ((v ∙ o) k))
+    (λ k. left (setting (pairs (j k).now) sel part (f k) (g k).now.items read) r.room.now.chosen.items r.room.now.numbers.items (e k) ((v ∙ o) k))
     ∙ sym (left-back w r.room.now.chosen.items r.room.now.numbers.items c n m few)
     ∙ (λ k. outer w (length part.streams.items) [] (sym a k) (sym b k))
 
@@ -178,17 +179,17 @@ light-more a i (x ∷ cs) c h l = (h.0, light-more a (i + 1) cs c h.1 (subst (λ
 
 -- a level that is used up
 pub past-outer : (sel : List Attr) (part : PartPlan) (read : Reading) (p : Probe) → p.over ≡ false → length p.room.now.chosen.items < length part.streams.items →
-    box_size (narrowed_dims p.pairs.now.items part p.arriving p.row.now.items p.room.now.chosen.items) ≤ p.next → left_of sel part read p ≡ outer_of sel part read p
+    box_size (narrowed_dims (pairs p.q.now) part p.arriving p.row.now.items p.room.now.chosen.items) ≤ p.next → left_of sel part read p ≡ outer_of sel part read p
 past-outer sel part read p o l past =
-    let w = setting p.pairs.now.items sel part p.arriving p.row.now.items read in
+    let w = setting (pairs p.q.now) sel part p.arriving p.row.now.items read in
     (λ k. left w p.room.now.chosen.items p.room.now.numbers.items p.next (o k))
-    ∙ left-past w p.room.now.chosen.items p.room.now.numbers.items p.next l (omega (arith, past, length-box (narrowed_dims p.pairs.now.items part p.arriving p.row.now.items p.room.now.chosen.items)))
+    ∙ left-past w p.room.now.chosen.items p.room.now.numbers.items p.next l (omega (arith, past, length-box (narrowed_dims (pairs p.q.now) part p.arriving p.row.now.items p.room.now.chosen.items)))
 
 -- the candidate that is next
-pub candidate : (part : PartPlan) (p : Probe) (values : List ℤ) → p.next < box_size (narrowed_dims p.pairs.now.items part p.arriving p.row.now.items p.room.now.chosen.items) →
-    values ≡ values_at (narrowed_dims p.pairs.now.items part p.arriving p.row.now.items p.room.now.chosen.items) p.next →
-    drop p.next (box (narrowed_dims p.pairs.now.items part p.arriving p.row.now.items p.room.now.chosen.items)) ≡ values ∷ drop (p.next + 1) (box (narrowed_dims p.pairs.now.items part p.arriving p.row.now.items p.room.now.chosen.items))
-candidate part p values l e = box-from _ _ l ∙ ap (λ vs. vs ∷ drop (p.next + 1) (box (narrowed_dims p.pairs.now.items part p.arriving p.row.now.items p.room.now.chosen.items))) (sym e)
+pub candidate : (part : PartPlan) (p : Probe) (values : List ℤ) → p.next < box_size (narrowed_dims (pairs p.q.now) part p.arriving p.row.now.items p.room.now.chosen.items) →
+    values ≡ values_at (narrowed_dims (pairs p.q.now) part p.arriving p.row.now.items p.room.now.chosen.items) p.next →
+    drop p.next (box (narrowed_dims (pairs p.q.now) part p.arriving p.row.now.items p.room.now.chosen.items)) ≡ values ∷ drop (p.next + 1) (box (narrowed_dims (pairs p.q.now) part p.arriving p.row.now.items p.room.now.chosen.items))
+candidate part p values l e = box-from _ _ l ∙ ap (λ vs. vs ∷ drop (p.next + 1) (box (narrowed_dims (pairs p.q.now) part p.arriving p.row.now.items p.room.now.chosen.items))) (sym e)
 
 pub paid-exactly : (s t x y e f : ℕ) → t ≡ s + e → e ≡ f → x + f ≡ y → t + x ≤ s + y
 paid-exactly s t x y e f a b c = omega (arith, a, b, c)
@@ -288,34 +289,34 @@ product-next cs i x product w v l e f g h = (λ k. e k * (h ∙ g ∙ ap (λ (y 
 
 -- all streams are chosen: the combination, if it meets the links, and then the rest
 module _ (sel : List Attr) (part : PartPlan) (p r : Probe) (back : (read : Reading) → left_of sel part read r ≡ outer_of sel part read p) (o : p.over ≡ false) (whole : length p.room.now.chosen.items ≡ length part.streams.items) where
-  whole-left : (read : Reading) → left_of sel part read p ≡ walk (setting p.pairs.now.items sel part p.arriving p.row.now.items read) 0 p.room.now.chosen.items ++ left_of sel part read r
+  whole-left : (read : Reading) → left_of sel part read p ≡ walk (setting (pairs p.q.now) sel part p.arriving p.row.now.items read) 0 p.room.now.chosen.items ++ left_of sel part read r
   whole-left read =
-      (λ k. left (setting p.pairs.now.items sel part p.arriving p.row.now.items read) p.room.now.chosen.items p.room.now.numbers.items p.next (o k))
-      ∙ left-whole (setting p.pairs.now.items sel part p.arriving p.row.now.items read) p.room.now.chosen.items p.room.now.numbers.items p.next whole
-      ∙ ap (λ fs. walk (setting p.pairs.now.items sel part p.arriving p.row.now.items read) 0 p.room.now.chosen.items ++ fs) (sym (back read))
+      (λ k. left (setting (pairs p.q.now) sel part p.arriving p.row.now.items read) p.room.now.chosen.items p.room.now.numbers.items p.next (o k))
+      ∙ left-whole (setting (pairs p.q.now) sel part p.arriving p.row.now.items read) p.room.now.chosen.items p.room.now.numbers.items p.next whole
+      ∙ ap (λ fs. walk (setting (pairs p.q.now) sel part p.arriving p.row.now.items read) 0 p.room.now.chosen.items ++ fs) (sym (back read))
 
-  pub finish-none : meets_links p.pairs.now.items part p.arriving p.row.now.items p.room.now.chosen.items ≡ false → (read : Reading) → left_of sel part read p ≡ left_of sel part read r
+  pub finish-none : meets_links (pairs p.q.now) part p.arriving p.row.now.items p.room.now.chosen.items ≡ false → (read : Reading) → left_of sel part read p ≡ left_of sel part read r
   unfolding walk
-  finish-none e read = whole-left read ∙ ap (λ b. (if b then found (setting p.pairs.now.items sel part p.arriving p.row.now.items read) p.room.now.chosen.items ∷ [] else []) ++ left_of sel part read r) e
+  finish-none e read = whole-left read ∙ ap (λ b. (if b then found (setting (pairs p.q.now) sel part p.arriving p.row.now.items read) p.room.now.chosen.items ∷ [] else []) ++ left_of sel part read r) e
 
-  pub finish-some : (vs : List ℤ) (n : ℕ) → meets_links p.pairs.now.items part p.arriving p.row.now.items p.room.now.chosen.items ≡ true → vs ≡ tuple_of p.pairs.now.items sel part p.arriving p.row.now.items p.room.now.chosen.items → n ≡ product_of p.room.now.chosen.items → (read : Reading) → left_of sel part read p ≡ as_found vs n ∷ left_of sel part read r
+  pub finish-some : (vs : List ℤ) (n : ℕ) → meets_links (pairs p.q.now) part p.arriving p.row.now.items p.room.now.chosen.items ≡ true → vs ≡ tuple_of (pairs p.q.now) sel part p.arriving p.row.now.items p.room.now.chosen.items → n ≡ product_of p.room.now.chosen.items → (read : Reading) → left_of sel part read p ≡ as_found vs n ∷ left_of sel part read r
   unfolding walk
   finish-some vs n e f g read =
-      whole-left read ∙ ap (λ b. (if b then found (setting p.pairs.now.items sel part p.arriving p.row.now.items read) p.room.now.chosen.items ∷ [] else []) ++ left_of sel part read r) e
+      whole-left read ∙ ap (λ b. (if b then found (setting (pairs p.q.now) sel part p.arriving p.row.now.items read) p.room.now.chosen.items ∷ [] else []) ++ left_of sel part read r) e
       ∙ (λ k. as_found (sym f k) (sym g k) ∷ left_of sel part read r)
 
 pub left-over : (sel : List Attr) (part : PartPlan) (read : Reading) (p : Probe) → p.over ≡ true → left_of sel part read p ≡ []
 unfolding left
-left-over sel part read p o = λ k. left (setting p.pairs.now.items sel part p.arriving p.row.now.items read) p.room.now.chosen.items p.room.now.numbers.items p.next (o k)
+left-over sel part read p o = λ k. left (setting (pairs p.q.now) sel part p.arriving p.row.now.items read) p.room.now.chosen.items p.room.now.numbers.items p.next (o k)
 
 -- one level more
 pub entered-left : (sel : List Attr) (part : PartPlan) (read : Reading) (p r : Probe) (values : List ℤ) (cell : Cell) → HasEntered values cell p r → p.over ≡ false → length p.room.now.chosen.items ≡ length p.room.now.numbers.items
-    → length p.room.now.chosen.items < length part.streams.items → p.next < box_size (narrowed_dims p.pairs.now.items part p.arriving p.row.now.items p.room.now.chosen.items)
-    → values ≡ values_at (narrowed_dims p.pairs.now.items part p.arriving p.row.now.items p.room.now.chosen.items) p.next → cell_in part read p.arriving (length p.room.now.chosen.items) values ≡ cell → (cell ≡ Empty → ⊥)
+    → length p.room.now.chosen.items < length part.streams.items → p.next < box_size (narrowed_dims (pairs p.q.now) part p.arriving p.row.now.items p.room.now.chosen.items)
+    → values ≡ values_at (narrowed_dims (pairs p.q.now) part p.arriving p.row.now.items p.room.now.chosen.items) p.next → cell_in part read p.arriving (length p.room.now.chosen.items) values ≡ cell → (cell ≡ Empty → ⊥)
     → left_of sel part read r ≡ left_of sel part read p
 entered-left sel part read p r values cell e o same more below is content some =
-    let w = setting p.pairs.now.items sel part p.arriving p.row.now.items read in
-    (λ k. left (setting (e.pairs k).now.items sel part (e.arriving k) (e.row k).now.items read) (e.chosen k) (e.numbers k) (e.next k) ((e.over ∙ o) k))
+    let w = setting (pairs p.q.now) sel part p.arriving p.row.now.items read in
+    (λ k. left (setting (pairs (e.query k).now) sel part (e.arriving k) (e.row k).now.items read) (e.chosen k) (e.numbers k) (e.next k) ((e.over ∙ o) k))
     ∙ sym (left-enter w p.room.now.chosen.items p.room.now.numbers.items p.next values cell same more (candidate part p values below is) content some)
     ∙ (λ k. left w p.room.now.chosen.items p.room.now.numbers.items p.next (sym o k))
 
@@ -356,11 +357,11 @@ module _ (ps : List Pair) (part : PartPlan) (arriving : ℕ) (row : List ℤ) (c
 
 -- candidates with empty cells are passed
 pub passed-left : (sel : List Attr) (part : PartPlan) (read : Reading) (p : Probe) (m : ℕ) → p.over ≡ false → length p.room.now.chosen.items < length part.streams.items → p.next ≤ m
-    → m ≤ box_size (narrowed_dims p.pairs.now.items part p.arriving p.row.now.items p.room.now.chosen.items)
-    → ((i : ℕ) → p.next ≤ i → i < m → cell_in part read p.arriving (length p.room.now.chosen.items) (values_at (narrowed_dims p.pairs.now.items part p.arriving p.row.now.items p.room.now.chosen.items) i) ≡ Empty)
-    → left (setting p.pairs.now.items sel part p.arriving p.row.now.items read) p.room.now.chosen.items p.room.now.numbers.items m p.over ≡ left_of sel part read p
+    → m ≤ box_size (narrowed_dims (pairs p.q.now) part p.arriving p.row.now.items p.room.now.chosen.items)
+    → ((i : ℕ) → p.next ≤ i → i < m → cell_in part read p.arriving (length p.room.now.chosen.items) (values_at (narrowed_dims (pairs p.q.now) part p.arriving p.row.now.items p.room.now.chosen.items) i) ≡ Empty)
+    → left (setting (pairs p.q.now) sel part p.arriving p.row.now.items read) p.room.now.chosen.items p.room.now.numbers.items m p.over ≡ left_of sel part read p
 passed-left sel part read p m o more after within empty =
-    let w = setting p.pairs.now.items sel part p.arriving p.row.now.items read in
+    let w = setting (pairs p.q.now) sel part p.arriving p.row.now.items read in
     let s : p.next + (m - p.next) ≡ m = omega (arith, after) in
     (λ k. left w p.room.now.chosen.items p.room.now.numbers.items (sym s k) (o k))
     ∙ sym (left-skip w p.room.now.chosen.items p.room.now.numbers.items (m - p.next) p.next more (λ i a b. (omega (arith, b, s, within), empty i a (omega (arith, b, s)))))

@@ -78,13 +78,13 @@ take-whole n xs e = ap (λ m. take m xs) e ∙ all xs
 
 module _ (part : PartPlan) (p r : Probe) (walk : IsSameWalk p r) where
   -- lists that fit one fit the other
-  pub same-placed : p.arriving < length part.streams.items → IsPrepared p.pairs.now.items part p.prepared.now
+  pub same-placed : p.arriving < length part.streams.items → IsPrepared (pairs p.q.now) part p.prepared.now
       → length r.room.now.chosen.items ≡ length r.room.now.numbers.items → length r.room.now.chosen.items ≤ length part.streams.items
       → AreLight p.arriving 0 r.room.now.chosen.items
-      → AreSizes p.pairs.now.items part p.arriving p.row.now.items [] r.room.now.chosen.items r.room.now.sizes.items
+      → AreSizes (pairs p.q.now) part p.arriving p.row.now.items [] r.room.now.chosen.items r.room.now.sizes.items
       → (r.level ≤ length r.room.now.chosen.items → TellsOf part r (take r.level r.room.now.chosen.items)) → IsPlaced part r
   same-placed here prepared same few light sizes seen =
-      let ps : r.pairs.now.items ≡ p.pairs.now.items = λ k. (walk.pairs k).now.items in
+      let ps : (pairs r.q.now) ≡ (pairs p.q.now) = λ k. (pairs (walk.query k).now) in
       let row : r.row.now.items ≡ p.row.now.items = λ k. (walk.row k).now.items in
       let x : r.prepared.now ≡ p.prepared.now = λ k. (walk.prepared k).now in
       record {
@@ -92,39 +92,39 @@ module _ (part : PartPlan) (p r : Probe) (walk : IsSameWalk p r) where
         same = same;
         few = few;
         light = subst (λ m. AreLight m 0 r.room.now.chosen.items) (sym walk.arriving) light;
-        prepared = subst (λ xs. IsPrepared xs part r.prepared.now) (sym ps) (subst (λ y. IsPrepared p.pairs.now.items part y) (sym x) prepared);
+        prepared = subst (λ xs. IsPrepared xs part r.prepared.now) (sym ps) (subst (λ y. IsPrepared (pairs p.q.now) part y) (sym x) prepared);
         sizes =
             subst (λ xs. AreSizes xs part r.arriving r.row.now.items [] r.room.now.chosen.items r.room.now.sizes.items) (sym ps)
-            (subst (λ m. AreSizes p.pairs.now.items part m r.row.now.items [] r.room.now.chosen.items r.room.now.sizes.items) (sym walk.arriving)
-            (subst (λ xs. AreSizes p.pairs.now.items part p.arriving xs [] r.room.now.chosen.items r.room.now.sizes.items) (sym row) sizes));
+            (subst (λ m. AreSizes (pairs p.q.now) part m r.row.now.items [] r.room.now.chosen.items r.room.now.sizes.items) (sym walk.arriving)
+            (subst (λ xs. AreSizes (pairs p.q.now) part p.arriving xs [] r.room.now.chosen.items r.room.now.sizes.items) (sym row) sizes));
         seen = seen;
       }
 
-  pub same-dims : (known : List Binding) → narrowed_dims p.pairs.now.items part p.arriving p.row.now.items known ≡ narrowed_dims r.pairs.now.items part r.arriving r.row.now.items known
-  same-dims known = λ k. narrowed_dims (sym walk.pairs k).now.items part (sym walk.arriving k) (sym walk.row k).now.items known
+  pub same-dims : (known : List Binding) → narrowed_dims (pairs p.q.now) part p.arriving p.row.now.items known ≡ narrowed_dims (pairs r.q.now) part r.arriving r.row.now.items known
+  same-dims known = λ k. narrowed_dims (pairs (sym walk.query k).now) part (sym walk.arriving k) (sym walk.row k).now.items known
 
   -- a room that tells the same
   pub same-tells : IsSameSight p r → (known others : List Binding) → known ≡ others → TellsOf part p known → TellsOf part r others
   same-tells sight known others e t =
-      let ds : narrowed_dims p.pairs.now.items part p.arriving p.row.now.items known ≡ narrowed_dims r.pairs.now.items part r.arriving r.row.now.items others
-      = same-dims known ∙ ap (narrowed_dims r.pairs.now.items part r.arriving r.row.now.items) e in (
+      let ds : narrowed_dims (pairs p.q.now) part p.arriving p.row.now.items known ≡ narrowed_dims (pairs r.q.now) part r.arriving r.row.now.items others
+      = same-dims known ∙ ap (narrowed_dims (pairs r.q.now) part r.arriving r.row.now.items) e in (
         sight.dims ∙ t.0 ∙ ds,
         subst (λ xs. StandOn part r.arriving (length others) xs r.room.now.line) ds
-            (subst (λ m. StandOn part m (length others) (narrowed_dims p.pairs.now.items part p.arriving p.row.now.items known) r.room.now.line) (sym walk.arriving)
-            (subst (λ cs. StandOn part p.arriving (length cs) (narrowed_dims p.pairs.now.items part p.arriving p.row.now.items known) r.room.now.line) e
-            (subst (λ o. StandOn part p.arriving (length known) (narrowed_dims p.pairs.now.items part p.arriving p.row.now.items known) o) (sym sight.line) t.1))),
+            (subst (λ m. StandOn part m (length others) (narrowed_dims (pairs p.q.now) part p.arriving p.row.now.items known) r.room.now.line) (sym walk.arriving)
+            (subst (λ cs. StandOn part p.arriving (length cs) (narrowed_dims (pairs p.q.now) part p.arriving p.row.now.items known) r.room.now.line) e
+            (subst (λ o. StandOn part p.arriving (length known) (narrowed_dims (pairs p.q.now) part p.arriving p.row.now.items known) o) (sym sight.line) t.1))),
       )
 
 -- one level less
 pub back-walk : (p r : Probe) → WentBack p r → IsSameWalk p r
-back-walk p r (ended a b c d e f g h m zs ss) = record { arriving = f; row = g; pairs = h; prepared = m }
-back-walk p r (popped c n z a b e v f g j m zs zv ss) = record { arriving = f; row = g; pairs = j; prepared = m }
+back-walk p r (ended a b c d e f g h m zs ss) = record { arriving = f; row = g; query = h; prepared = m }
+back-walk p r (popped c n z a b e v f g j m zs zv ss) = record { arriving = f; row = g; query = j; prepared = m }
 
 pub back-placed : (part : PartPlan) (p r : Probe) → WentBack p r → IsPlaced part p → IsPlaced part r
 back-placed part p r (ended a b c d e f g h m zs ss) u =
     same-placed part p r (back-walk p r (ended a b c d e f g h m zs ss)) u.here u.prepared (ap length c ∙ sym (ap length d)) (let z = ap length c in omega (arith, z))
     (subst (λ cs. AreLight p.arriving 0 cs) (sym c) tt)
-    (subst (λ cs. AreSizes p.pairs.now.items part p.arriving p.row.now.items [] cs r.room.now.sizes.items) (sym c) (subst (λ ns. AreSizes p.pairs.now.items part p.arriving p.row.now.items [] [] ns) (sym zs) tt))
+    (subst (λ cs. AreSizes (pairs p.q.now) part p.arriving p.row.now.items [] cs r.room.now.sizes.items) (sym c) (subst (λ ns. AreSizes (pairs p.q.now) part p.arriving p.row.now.items [] [] ns) (sym zs) tt))
     (λ l. same-tells part p r (back-walk p r (ended a b c d e f g h m zs ss)) ss _ _ (λ k. take (sym ss.level k) ((a ∙ sym c) k)) (u.seen (let x = ap length a in let y = ap length c in omega (arith, l, ss.level, x, y))))
 back-placed part p r (popped c n z a b e v f g j m zs zv ss) u =
     let x = ap length a in
@@ -133,16 +133,16 @@ back-placed part p r (popped c n z a b e v f g j m zs zv ss) u =
     let t = length-append r.room.now.numbers.items (n ∷ []) in
     same-placed part p r (back-walk p r (popped c n z a b e v f g j m zs zv ss)) u.here u.prepared (omega (arith, x, y, s, t, u.same)) (omega (arith, x, s, u.few))
     (light-front p.arriving 0 r.room.now.chosen.items c (subst (λ cs. AreLight p.arriving 0 cs) a u.light))
-    (sizes-pop p.pairs.now.items part p.arriving p.row.now.items [] r.room.now.chosen.items r.room.now.sizes.items c z
-    (subst (λ cs. AreSizes p.pairs.now.items part p.arriving p.row.now.items [] cs (r.room.now.sizes.items ++ z ∷ [])) a (subst (λ ns. AreSizes p.pairs.now.items part p.arriving p.row.now.items [] p.room.now.chosen.items ns) zs u.sizes))).0
+    (sizes-pop (pairs p.q.now) part p.arriving p.row.now.items [] r.room.now.chosen.items r.room.now.sizes.items c z
+    (subst (λ cs. AreSizes (pairs p.q.now) part p.arriving p.row.now.items [] cs (r.room.now.sizes.items ++ z ∷ [])) a (subst (λ ns. AreSizes (pairs p.q.now) part p.arriving p.row.now.items [] p.room.now.chosen.items ns) zs u.sizes))).0
     (λ l. same-tells part p r (back-walk p r (popped c n z a b e v f g j m zs zv ss)) ss _ _
     ((λ k. take (sym ss.level k) (a k)) ∙ take-front r.level r.room.now.chosen.items (c ∷ []) l) (u.seen (omega (arith, l, ss.level, x, s))))
 
 pub back-size : (part : PartPlan) (p r : Probe) → WentBack p r → IsPlaced part p → r.over ≡ false → r.size ≡ box_size (dims_now part r)
 back-size part p r (ended a b c d e f g h m zs ss) u o = absurd (let x : true ≡ false = sym e ∙ o in cc)
 back-size part p r (popped c n z a b e v f g j m zs zv ss) u o =
-    zv ∙ (sizes-pop p.pairs.now.items part p.arriving p.row.now.items [] r.room.now.chosen.items r.room.now.sizes.items c z
-    (subst (λ cs. AreSizes p.pairs.now.items part p.arriving p.row.now.items [] cs (r.room.now.sizes.items ++ z ∷ [])) a (subst (λ ns. AreSizes p.pairs.now.items part p.arriving p.row.now.items [] p.room.now.chosen.items ns) zs u.sizes))).1
+    zv ∙ (sizes-pop (pairs p.q.now) part p.arriving p.row.now.items [] r.room.now.chosen.items r.room.now.sizes.items c z
+    (subst (λ cs. AreSizes (pairs p.q.now) part p.arriving p.row.now.items [] cs (r.room.now.sizes.items ++ z ∷ [])) a (subst (λ ns. AreSizes (pairs p.q.now) part p.arriving p.row.now.items [] p.room.now.chosen.items ns) zs u.sizes))).1
     ∙ ap box_size (same-dims part p r (back-walk p r (popped c n z a b e v f g j m zs zv ss)) r.room.now.chosen.items)
 
 pub back-shorter : (part : PartPlan) (p r : Probe) → WentBack p r → IsPlaced part p → r.over ≡ false → length r.room.now.chosen.items < length part.streams.items
@@ -163,10 +163,10 @@ placed-underway part r h size level =
 
 module _ (part : PartPlan) (r s : Probe) (o : HasOpened part r s) where
   opened-walk : IsSameWalk r s
-  opened-walk = record { arriving = o.arriving; row = o.row; pairs = o.pairs; prepared = o.prepared }
+  opened-walk = record { arriving = o.arriving; row = o.row; query = o.query; prepared = o.prepared }
 
   opened-dims : dims_now part r ≡ dims_now part s
-  opened-dims = same-dims part r s opened-walk r.room.now.chosen.items ∙ ap (narrowed_dims s.pairs.now.items part s.arriving s.row.now.items) (sym o.chosen)
+  opened-dims = same-dims part r s opened-walk r.room.now.chosen.items ∙ ap (narrowed_dims (pairs s.q.now) part s.arriving s.row.now.items) (sym o.chosen)
 
   pub opened-underway : IsPlaced part r → IsUnderway part s
   opened-underway h =
@@ -175,7 +175,7 @@ module _ (part : PartPlan) (r s : Probe) (o : HasOpened part r s) where
       let level : s.level ≡ length s.room.now.chosen.items = o.level ∙ sym x in
       placed-underway part s
       (same-placed part r s opened-walk h.here h.prepared (omega (arith, x, y, h.same)) (omega (arith, x, h.few)) (subst (λ cs. AreLight r.arriving 0 cs) (sym o.chosen) h.light)
-      (subst (λ cs. AreSizes r.pairs.now.items part r.arriving r.row.now.items [] cs s.room.now.sizes.items) (sym o.chosen) (subst (λ ns. AreSizes r.pairs.now.items part r.arriving r.row.now.items [] r.room.now.chosen.items ns) (sym o.sizes) h.sizes))
+      (subst (λ cs. AreSizes (pairs r.q.now) part r.arriving r.row.now.items [] cs s.room.now.sizes.items) (sym o.chosen) (subst (λ ns. AreSizes (pairs r.q.now) part r.arriving r.row.now.items [] r.room.now.chosen.items ns) (sym o.sizes) h.sizes))
       (λ l. subst (λ cs. TellsOf part s cs) (sym (take-whole s.level s.room.now.chosen.items level)) (
         o.dims ∙ opened-dims,
         subst (λ ds. StandOn part s.arriving (length s.room.now.chosen.items) ds s.room.now.line) opened-dims
@@ -186,7 +186,7 @@ module _ (part : PartPlan) (r s : Probe) (o : HasOpened part r s) where
       (λ a b c. level)
 
   pub opened-left : (sel : List Attr) (read : Reading) → left_of sel part read s ≡ left_of sel part read r
-  opened-left sel read = λ k. left (setting (o.pairs k).now.items sel part (o.arriving k) (o.row k).now.items read) (o.chosen k) (o.numbers k) (o.next k) (o.over k)
+  opened-left sel read = λ k. left (setting (pairs (o.query k).now) sel part (o.arriving k) (o.row k).now.items read) (o.chosen k) (o.numbers k) (o.next k) (o.over k)
 
   pub opened-cost : (rates : ℕ → Rates) → cost_left (rates s.arriving) (length part.streams.items) s.room.now.numbers.items s.next s.over ≡ cost_left (rates r.arriving) (length part.streams.items) r.room.now.numbers.items r.next r.over
   opened-cost rates = λ k. cost_left (rates (o.arriving k)) (length part.streams.items) (o.numbers k) (o.next k) (o.over k)
@@ -202,9 +202,9 @@ enter-placed part p r c n size walk sight apart u e a b zs l h =
     let z : length p.room.now.chosen.items ≡ 0 + length p.room.now.chosen.items = omega arith in
     same-placed part p r walk u.here u.prepared (omega (arith, x, y, s, t, u.same)) (omega (arith, x, s, l))
     (subst (λ cs. AreLight p.arriving 0 cs) (sym a) (light-more p.arriving 0 p.room.now.chosen.items c u.light (subst (λ m. rows_in c.cell ≤ limit p.arriving m) z h)))
-    (subst (λ cs. AreSizes p.pairs.now.items part p.arriving p.row.now.items [] cs r.room.now.sizes.items) (sym a)
-    (subst (λ ns. AreSizes p.pairs.now.items part p.arriving p.row.now.items [] (p.room.now.chosen.items ++ c ∷ []) ns) (sym zs)
-    (sizes-push p.pairs.now.items part p.arriving p.row.now.items [] p.room.now.chosen.items p.room.now.sizes.items c size u.sizes e)))
+    (subst (λ cs. AreSizes (pairs p.q.now) part p.arriving p.row.now.items [] cs r.room.now.sizes.items) (sym a)
+    (subst (λ ns. AreSizes (pairs p.q.now) part p.arriving p.row.now.items [] (p.room.now.chosen.items ++ c ∷ []) ns) (sym zs)
+    (sizes-push (pairs p.q.now) part p.arriving p.row.now.items [] p.room.now.chosen.items p.room.now.sizes.items c size u.sizes e)))
     (λ m. let few : p.level ≤ length p.room.now.chosen.items = level-before p.level (length p.room.now.chosen.items) apart (omega (arith, m, sight.level, x, s)) in
     same-tells part p r walk sight _ _ (sym (take-front p.level p.room.now.chosen.items (c ∷ []) few) ∙ (λ k. take (sym sight.level k) (sym a k))) (u.seen few))
   where
@@ -213,14 +213,14 @@ enter-placed part p r c n size walk sight apart u e a b zs l h =
 
 -- at the start of a walk
 pub start-placed : (q : QueryValue) (part : PartPlan) (p : Probe) → p.arriving < length part.streams.items → p.room.now.chosen.items ≡ [] → p.room.now.numbers.items ≡ [] → p.room.now.sizes.items ≡ []
-    → p.pairs.now.items ≡ pairs q → IsPrepared (pairs q) part p.prepared.now → 0 < p.level → IsPlaced part p
+    → (pairs p.q.now) ≡ pairs q → IsPrepared (pairs q) part p.prepared.now → 0 < p.level → IsPlaced part p
 start-placed q part p here a b d e h some = record {
   here = here;
   same = ap length a ∙ sym (ap length b);
   few = (let z = ap length a in omega (arith, z));
   light = subst (λ cs. AreLight p.arriving 0 cs) (sym a) tt;
   prepared = subst (λ xs. IsPrepared xs part p.prepared.now) (sym e) h;
-  sizes = subst (λ cs. AreSizes p.pairs.now.items part p.arriving p.row.now.items [] cs p.room.now.sizes.items) (sym a) (subst (λ ns. AreSizes p.pairs.now.items part p.arriving p.row.now.items [] [] ns) (sym d) tt);
+  sizes = subst (λ cs. AreSizes (pairs p.q.now) part p.arriving p.row.now.items [] cs p.room.now.sizes.items) (sym a) (subst (λ ns. AreSizes (pairs p.q.now) part p.arriving p.row.now.items [] [] ns) (sym d) tt);
   seen = (λ l. let z = ap length a in absurd (omega (arith, l, z, some)));
 }
 
@@ -236,7 +236,7 @@ pub opened-from : (part : PartPlan) (p r s : Probe) → IsSameWalk p r → r.roo
     → r.room.now.sizes.items ≡ p.room.now.sizes.items → r.next ≡ p.next → r.over ≡ p.over → HasOpened part r s → HasOpened part p s
 opened-from part p r s walk chosen numbers sizes next over h =
     let known = r.room.now.chosen.items in
-    let ds : dims_now part r ≡ dims_now part p = sym (same-dims part p r walk known) ∙ ap (narrowed_dims p.pairs.now.items part p.arriving p.row.now.items) chosen in
+    let ds : dims_now part r ≡ dims_now part p = sym (same-dims part p r walk known) ∙ ap (narrowed_dims (pairs p.q.now) part p.arriving p.row.now.items) chosen in
     record {
       dims = h.dims ∙ ds;
       size = h.size ∙ ap box_size ds;
@@ -252,6 +252,6 @@ opened-from part p r s walk chosen numbers sizes next over h =
       over = h.over ∙ over;
       arriving = h.arriving ∙ walk.arriving;
       row = h.row ∙ walk.row;
-      pairs = h.pairs ∙ walk.pairs;
+      query = h.query ∙ walk.query;
       prepared = h.prepared ∙ walk.prepared;
     }

@@ -1,4 +1,5 @@
 -- What a probe has still to do.
+use Rattle.sem_query.specs.Parts.{pairs}
 use Rattle.std.specs.Prelude.{◌≡◌, ℕ, ◌+◌, ◌<◌, ◌≤◌, ◌++◌, ◌==◌, ◌^◌, if◌then◌else◌, List, [], ◌∷◌, length, take, true, false, ℤ}
 use Rattle.sem_query.specs.declared.atom.Attr.{Attr}
 use Rattle.sem_query.specs.declared.cell.Cell.{Cell}
@@ -19,11 +20,11 @@ use Rattle.exec_join.specs.Costs.{cost_left, reads, turns}
 
 -- what the probe has still to give
 abbrev pub left_of : List Attr → PartPlan → Reading → Probe → List Found
-left_of select part read p = left (setting p.pairs.now.items select part p.arriving p.row.now.items read) p.room.now.chosen.items p.room.now.numbers.items p.next p.over
+left_of select part read p = left (setting (pairs p.q.now) select part p.arriving p.row.now.items read) p.room.now.chosen.items p.room.now.numbers.items p.next p.over
 
 -- what the levels that were entered have still to give
 abbrev pub outer_of : List Attr → PartPlan → Reading → Probe → List Found
-outer_of select part read p = outer (setting p.pairs.now.items select part p.arriving p.row.now.items read) (length part.streams.items) [] p.room.now.chosen.items p.room.now.numbers.items
+outer_of select part read p = outer (setting (pairs p.q.now) select part p.arriving p.row.now.items read) (length part.streams.items) [] p.room.now.chosen.items p.room.now.numbers.items
 
 -- the cells that it has still to read, at most
 abbrev pub reads_left : PartPlan → Probe → ℕ
@@ -55,13 +56,13 @@ AreSizes ps part arriving row known (c ∷ cs) (n ∷ ns) = (n ≡ box_size (nar
 
 -- the values to try at the level where a probe stands
 abbrev pub dims_now : PartPlan → Probe → List Dim
-dims_now part p = narrowed_dims p.pairs.now.items part p.arriving p.row.now.items p.room.now.chosen.items
+dims_now part p = narrowed_dims (pairs p.q.now) part p.arriving p.row.now.items p.room.now.chosen.items
 
 -- what the room tells after these choices: the dims to try, and the line of their cells
 abbrev pub TellsOf : PartPlan → Probe → List Binding → Type 0
 TellsOf part p known =
-    (p.room.now.dims.items ≡ narrowed_dims p.pairs.now.items part p.arriving p.row.now.items known)
-    × StandOn part p.arriving (length known) (narrowed_dims p.pairs.now.items part p.arriving p.row.now.items known) p.room.now.line
+    (p.room.now.dims.items ≡ narrowed_dims (pairs p.q.now) part p.arriving p.row.now.items known)
+    × StandOn part p.arriving (length known) (narrowed_dims (pairs p.q.now) part p.arriving p.row.now.items known) p.room.now.line
 
 -- where a probe stands, whatever it knows of its level
 pub record IsPlaced (part : PartPlan) (p : Probe) : Type 0 where
@@ -69,13 +70,13 @@ pub record IsPlaced (part : PartPlan) (p : Probe) : Type 0 where
   pub same : length p.room.now.chosen.items ≡ length p.room.now.numbers.items
   pub few : length p.room.now.chosen.items ≤ length part.streams.items
   pub light : AreLight p.arriving 0 p.room.now.chosen.items
-  pub prepared : IsPrepared p.pairs.now.items part p.prepared.now
-  pub sizes : AreSizes p.pairs.now.items part p.arriving p.row.now.items [] p.room.now.chosen.items p.room.now.sizes.items
+  pub prepared : IsPrepared (pairs p.q.now) part p.prepared.now
+  pub sizes : AreSizes (pairs p.q.now) part p.arriving p.row.now.items [] p.room.now.chosen.items p.room.now.sizes.items
   pub seen : p.level ≤ length p.room.now.chosen.items → TellsOf part p (take p.level p.room.now.chosen.items)
 
 -- a probe of these pairs, this place of FROM and this row, that has chosen nothing but the row itself
 pub record IsAtStart (ps : List Pair) (place : ℕ) (columns : List ℤ) (p : Probe) : Type 0 where
-  pub pairs : p.pairs.now.items ≡ ps
+  pub list : pairs p.q.now ≡ ps
   pub arriving : p.arriving ≡ place
   pub row : p.row.now.items ≡ columns
   pub chosen : p.room.now.chosen.items ≡ start place
@@ -100,13 +101,13 @@ pub record IsSameSight (p r : Probe) : Type 0 where
 pub record IsSameWalk (p r : Probe) : Type 0 where
   pub arriving : r.arriving ≡ p.arriving
   pub row : r.row ≡ p.row
-  pub pairs : r.pairs ≡ p.pairs
+  pub query : r.q ≡ p.q
   pub prepared : r.prepared ≡ p.prepared
 
 -- one level less, or the end; where it went back, the size of the level is that which was kept
 pub data WentBack : Probe → Probe → Type 0 where
-  ended : {p r : Probe} → p.room.now.chosen.items ≡ [] → p.room.now.numbers.items ≡ [] → r.room.now.chosen.items ≡ [] → r.room.now.numbers.items ≡ [] → r.over ≡ true → r.arriving ≡ p.arriving → r.row ≡ p.row → r.pairs ≡ p.pairs → r.prepared ≡ p.prepared → r.room.now.sizes.items ≡ [] → IsSameSight p r → WentBack p r
-  popped : {p r : Probe} (c : Binding) (n z : ℕ) → p.room.now.chosen.items ≡ r.room.now.chosen.items ++ c ∷ [] → p.room.now.numbers.items ≡ r.room.now.numbers.items ++ n ∷ [] → r.next ≡ n → r.over ≡ p.over → r.arriving ≡ p.arriving → r.row ≡ p.row → r.pairs ≡ p.pairs → r.prepared ≡ p.prepared → p.room.now.sizes.items ≡ r.room.now.sizes.items ++ z ∷ [] → r.size ≡ z → IsSameSight p r → WentBack p r
+  ended : {p r : Probe} → p.room.now.chosen.items ≡ [] → p.room.now.numbers.items ≡ [] → r.room.now.chosen.items ≡ [] → r.room.now.numbers.items ≡ [] → r.over ≡ true → r.arriving ≡ p.arriving → r.row ≡ p.row → r.q ≡ p.q → r.prepared ≡ p.prepared → r.room.now.sizes.items ≡ [] → IsSameSight p r → WentBack p r
+  popped : {p r : Probe} (c : Binding) (n z : ℕ) → p.room.now.chosen.items ≡ r.room.now.chosen.items ++ c ∷ [] → p.room.now.numbers.items ≡ r.room.now.numbers.items ++ n ∷ [] → r.next ≡ n → r.over ≡ p.over → r.arriving ≡ p.arriving → r.row ≡ p.row → r.q ≡ p.q → r.prepared ≡ p.prepared → p.room.now.sizes.items ≡ r.room.now.sizes.items ++ z ∷ [] → r.size ≡ z → IsSameSight p r → WentBack p r
 
 -- the same walk, which sees the values to try at its level
 pub record HasOpened (part : PartPlan) (p r : Probe) : Type 0 where
@@ -121,7 +122,7 @@ pub record HasOpened (part : PartPlan) (p r : Probe) : Type 0 where
   pub over : r.over ≡ p.over
   pub arriving : r.arriving ≡ p.arriving
   pub row : r.row ≡ p.row
-  pub pairs : r.pairs ≡ p.pairs
+  pub query : r.q ≡ p.q
   pub prepared : r.prepared ≡ p.prepared
 
 -- the walk goes on in this cell, at the next level
@@ -133,5 +134,5 @@ pub record HasEntered (values : List ℤ) (cell : Cell) (p r : Probe) : Type 0 w
   pub over : r.over ≡ p.over
   pub arriving : r.arriving ≡ p.arriving
   pub row : r.row ≡ p.row
-  pub pairs : r.pairs ≡ p.pairs
+  pub query : r.q ≡ p.q
   pub prepared : r.prepared ≡ p.prepared

@@ -1,5 +1,6 @@
 //! Cells equally far apart that the links leave where a walk begins, and a look along them for the first that is not empty.
 ghost use Rattle.std.specs.Prelude.{◌≡◌, ◌≢◌, ◌⊎◌, ◌+◌, ◌*◌, ◌<◌, ◌≤◌, ◌^◌, ◌≤ℤ◌, [], length, true, false, IfSome};
+ghost use Rattle.sem_query.specs.Parts.{pairs};
 ghost use Rattle.sem_query.specs.Boxes.{dim_size, box_size};
 ghost use Rattle.sem_query.specs.Plan.{stream_at, dims_at};
 ghost use Rattle.exec_ranges.specs.Lined.{IsLine};
@@ -62,7 +63,7 @@ pub fn is_nothing(seen: Along) -> bool
 // The line with one dim more, where it stays one: known columns leave one value of the dim, or say nothing of it.
 #[inline(always)]
 fn longer_line(at: &RowAt<'_>, known: &[Binding], dim: Dim, line: CellLine) -> Option<CellLine>
-    requires prepared { IsPrepared at.now.pairs.now at.now.part.now at.now.prepared.now }
+    requires prepared { IsPrepared (pairs at.now.q.now) at.now.part.now at.now.prepared.now }
     requires free { at.now.part.now.less.items ≡ [] }
     requires few { dim_size dim < 2 ^ 32 }
     requires fits { (line.first + 1) * dim_size dim < 2 ^ 32 }
@@ -70,7 +71,7 @@ fn longer_line(at: &RowAt<'_>, known: &[Binding], dim: Dim, line: CellLine) -> O
     requires far { line.stride * dim_size dim < 2 ^ 32 }
     requires some { 1 ≤ line.stride }
     requires full { dim.lo ≤ℤ dim.hi }
-    ensures { IfSome result (λ longer. IsLongerLine (narrow at.now.arriving (length known.now) at.now.part.now.equal.items at.now.part.now.less.items (value_in at.now.pairs.now at.now.part.now at.now.arriving at.now.row.now known.now) dim) dim line longer) }
+    ensures { IfSome result (λ longer. IsLongerLine (narrow at.now.arriving (length known.now) at.now.part.now.equal.items at.now.part.now.less.items (value_in (pairs at.now.q.now) at.now.part.now at.now.arriving at.now.row.now.items known.now) dim) dim line longer) }
 {
     let size = dim_size(dim);
     let Some(column) = binding_column(at.arriving, known.len(), dim.attr, at.part.equal.as_slice())
@@ -106,10 +107,10 @@ fn is_bound(at: &RowAt<'_>, known: &[Binding], dim: Dim) -> bool {
 pub fn line_ahead(at: &RowAt<'_>, known: &[Binding]) -> Option<CellLine>
     requires here { length known.now < length at.now.part.now.streams.items }
     requires other { length known.now ≢ at.now.arriving }
-    requires prepared { IsPrepared at.now.pairs.now at.now.part.now at.now.prepared.now }
+    requires prepared { IsPrepared (pairs at.now.q.now) at.now.part.now at.now.prepared.now }
     requires laid { IsLaidOut (stream_at at.now.part.now (length known.now)) (2 ^ 32) }
-    ensures line { IfSome result (λ line. IsLine (stream_at at.now.part.now (length known.now)).base (dims_at at.now.part.now (length known.now)) (narrowed_dims at.now.pairs.now at.now.part.now at.now.arriving at.now.row.now known.now) (record { first = line.first; stride = line.stride })) }
-    ensures count { IfSome result (λ line. line.count ≡ box_size (narrowed_dims at.now.pairs.now at.now.part.now at.now.arriving at.now.row.now known.now)) }
+    ensures line { IfSome result (λ line. IsLine (stream_at at.now.part.now (length known.now)).base (dims_at at.now.part.now (length known.now)) (narrowed_dims (pairs at.now.q.now) at.now.part.now at.now.arriving at.now.row.now.items known.now) (record { first = line.first; stride = line.stride })) }
+    ensures count { IfSome result (λ line. line.count ≡ box_size (narrowed_dims (pairs at.now.q.now) at.now.part.now at.now.arriving at.now.row.now.items known.now)) }
 {
     if !at.part.less.as_slice().is_empty() {
         return None;

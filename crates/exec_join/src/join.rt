@@ -11,9 +11,9 @@ ghost use Rattle.exec_synopsis.specs.Preparing.{IsPrepared};
 ghost use Rattle.exec_join.specs.Joining.{is_some, value_of, are_told, told_values, Tells};
 ghost use Rattle.exec_join.specs.declared.join.FirstLook.TheVariants as look;
 
-use exec_pool::{Pool, Steps};
-use exec_ranges::{PartAt, is_empty, rows_in};
-use exec_synopsis::{Admitted, JoinLookup};
+use exec_pool::{Extent, Pool, Steps};
+use exec_ranges::{RowAt, is_empty, rows_in};
+use exec_synopsis::JoinLookup;
 use sem_query::{Attr, Tuple, value_at};
 use std::sync::ledger::Ledger;
 
@@ -60,35 +60,35 @@ fn put_values(listed: &JoinLookup, arriving: u8, row: &[i64], select: &[Attr], t
 #[inline(always)]
 pub fn first_look<L: Ledger>(
     pool: &Pool,
-    part: &PartAt<'_>,
-    at: &Admitted<'_>,
+    e: &Extent,
+    at: &RowAt<'_>,
     tuple: &mut Tuple,
     steps: &mut Steps<L>,
 ) -> FirstLook
-    requires here { at.now.pos < length part.now.q.now.from }
-    requires ready { IsReady part.now.q.now part.now.plan.now pool.now part.now.extent.now }
-    requires prepared { IsPrepared (pairs part.now.q.now) part.now.plan.now part.now.prepared.now }
-    ensures found { Tells result tuple.new.items (found_beside part.now.q.now part.now.plan.now (read_from (cells_of pool.now part.now.extent.now)) at.now.pos (by_column at.now.row.now.items)) }
+    requires here { at.now.arriving < length at.now.q.now.from }
+    requires ready { IsReady at.now.q.now at.now.part.now pool.now e.now }
+    requires prepared { IsPrepared (pairs at.now.q.now) at.now.part.now at.now.prepared.now }
+    ensures found { Tells result tuple.new.items (found_beside at.now.q.now at.now.part.now (read_from (cells_of pool.now e.now)) at.now.arriving (by_column at.now.row.now.items)) }
     ensures unknown { result ≡ look.Unknown → steps.new ≡ steps.old }
-    ensures reads { steps.new.reads ≤ steps.old.reads + share part.now.plan.now }
+    ensures reads { steps.new.reads ≤ steps.old.reads + share at.now.part.now }
     ensures writes { steps.new.writes ≡ steps.old.writes }
 {
-    let Some(listed) = part.prepared.join_lookup(at.pos) else {
+    let Some(listed) = at.prepared.join_lookup(at.arriving) else {
         return FirstLook::Unknown;
     };
-    let select = part.q.select();
-    if !are_told(listed, at.pos, select) {
+    let select = at.q.select();
+    if !are_told(listed, at.arriving, select) {
         return FirstLook::Unknown;
     }
     let row = at.row.as_slice();
     let Some(number) = listed.cell_of(row) else {
         return FirstLook::Nothing;
     };
-    let cell = pool.read(part.extent, number, steps);
+    let cell = pool.read(e, number, steps);
     if is_empty(cell) {
         FirstLook::Nothing
     } else {
-        put_values(listed, at.pos, row, select, tuple);
+        put_values(listed, at.arriving, row, select, tuple);
         FirstLook::One(rows_in(cell))
     }
 }

@@ -26,4 +26,4 @@ pub use along::{Along, is_nothing};
 pub use join::{FirstLook, first_look};
 pub use nothing::look_before_walk;
 pub use probe::Probe;
-pub use scratch::ProbeScratch;
+pub use scratch::{ProbeScratch, Scratch};

@@ -1,5 +1,6 @@
 //! What holds between the cells of a combination, and what it answers.
 ghost use Rattle.std.specs.Prelude.{◌≡◌, ◌≤◌, length, int_lt, map};
+ghost use Rattle.sem_query.specs.Parts.{pairs};
 ghost use Rattle.std.specs.List.{list_all};
 ghost use Rattle.std.specs.Ordering.{int_eq};
 ghost use Rattle.sem_query.specs.Assignment.{compares};
@@ -14,8 +15,8 @@ use sem_query::{Attr, Tuple};
 #[tactic(auto, unfolding(crate::specs::Choosing::meets_links))]
 #[inline(always)]
 pub fn meets_links(at: &RowAt<'_>, known: &[Binding]) -> bool
-    requires prepared { IsPrepared at.now.pairs.now at.now.part.now at.now.prepared.now }
-    ensures { result ≡ meets_links at.now.pairs.now at.now.part.now at.now.arriving at.now.row.now known.now }
+    requires prepared { IsPrepared (pairs at.now.q.now) at.now.part.now at.now.prepared.now }
+    ensures { result ≡ meets_links (pairs at.now.q.now) at.now.part.now at.now.arriving at.now.row.now.items known.now }
 {
     // The inequalities first: an equality mostly holds of what it left to choose.
     'less: for l in at.part.less.as_slice() {
@@ -47,8 +48,8 @@ pub fn meets_links(at: &RowAt<'_>, known: &[Binding]) -> bool
 #[inline(always)]
 pub fn tuple_of(at: &RowAt<'_>, known: &[Binding], select: &[Attr], tuple: &mut Tuple)
     requires few { length select.now ≤ 8 }
-    requires prepared { IsPrepared at.now.pairs.now at.now.part.now at.now.prepared.now }
-    ensures { tuple.new.items ≡ tuple_of at.now.pairs.now select.now at.now.part.now at.now.arriving at.now.row.now known.now }
+    requires prepared { IsPrepared (pairs at.now.q.now) at.now.part.now at.now.prepared.now }
+    ensures { tuple.new.items ≡ tuple_of (pairs at.now.q.now) select.now at.now.part.now at.now.arriving at.now.row.now.items known.now }
 {
     *tuple = Tuple::new();
     'selected: for a in select {

@@ -15,9 +15,8 @@ ghost use Rattle.exec_synopsis.specs.Preparing.{IsPrepared};
 use crate::beside::has_single_cells;
 use crate::join::FirstLook;
 use crate::scratch::ProbeScratch;
-use exec_pool::{Pool, Steps};
-use exec_ranges::{PartAt, RowAt, is_empty};
-use exec_synopsis::Admitted;
+use exec_pool::{Extent, Pool, Steps};
+use exec_ranges::{RowAt, is_empty};
 use sem_query::Tuple;
 use std::sync::ledger::Ledger;
 
@@ -28,57 +27,50 @@ use std::sync::ledger::Ledger;
 /// streams it follows at most half the share.
 pub fn look_before_walk<L: Ledger>(
     pool: &Pool,
-    part: &PartAt<'_>,
-    at: &Admitted<'_>,
+    e: &Extent,
+    at: &RowAt<'_>,
     room: &mut ProbeScratch,
     tuple: &mut Tuple,
     steps: &mut Steps<L>,
 ) -> FirstLook
-    requires here { at.now.pos < length part.now.q.now.from }
-    requires ready { IsReady part.now.q.now part.now.plan.now pool.now part.now.extent.now }
-    requires prepared { IsPrepared (pairs part.now.q.now) part.now.plan.now part.now.prepared.now }
-    ensures found { Tells result tuple.new.items (found_beside part.now.q.now part.now.plan.now (read_from (cells_of pool.now part.now.extent.now)) at.now.pos (by_column at.now.row.now.items)) }
-    ensures alone { length part.now.plan.now.streams.items ≡ 2 → result ≡ look.Unknown → 2 * steps.new.reads ≤ 2 * steps.old.reads + share part.now.plan.now }
-    ensures few { steps.new.reads ≤ steps.old.reads + share part.now.plan.now }
-    ensures reads { steps.new.reads + walk_reads part.now.plan.now at.now.pos ≤ steps.old.reads + 3 * share part.now.plan.now }
+    requires here { at.now.arriving < length at.now.q.now.from }
+    requires ready { IsReady at.now.q.now at.now.part.now pool.now e.now }
+    requires prepared { IsPrepared (pairs at.now.q.now) at.now.part.now at.now.prepared.now }
+    ensures found { Tells result tuple.new.items (found_beside at.now.q.now at.now.part.now (read_from (cells_of pool.now e.now)) at.now.arriving (by_column at.now.row.now.items)) }
+    ensures alone { length at.now.part.now.streams.items ≡ 2 → result ≡ look.Unknown → 2 * steps.new.reads ≤ 2 * steps.old.reads + share at.now.part.now }
+    ensures few { steps.new.reads ≤ steps.old.reads + share at.now.part.now }
+    ensures reads { steps.new.reads + walk_reads at.now.part.now at.now.arriving ≤ steps.old.reads + 3 * share at.now.part.now }
     ensures writes { steps.new.writes ≡ steps.old.writes }
 {
-    let streams = part.plan.streams.as_slice().len();
+    let streams = at.part.streams.as_slice().len();
     let row = at.row.as_slice();
     if streams > 3 {
-        if has_single_cells(part.plan, at.pos) {
+        if has_single_cells(at.part, at.arriving) {
             return FirstLook::Unknown;
         }
-        if room.is_cut_off(pool, part.extent, part.plan, at.pos, row, steps) {
+        if room.is_cut_off(pool, e, at.part, at.arriving, row, steps) {
             return FirstLook::Nothing;
         }
         return FirstLook::Unknown;
     }
-    let row_at = RowAt {
-        pairs: part.q.pairs().as_slice(),
-        part: part.plan,
-        prepared: part.prepared,
-        arriving: at.pos,
-        row,
-    };
-    let Some(number) = room.first_cell(&row_at) else {
-        if part.plan.equal.as_slice().is_empty() {
-            if room.is_cut_off(pool, part.extent, part.plan, at.pos, row, steps) {
+    let Some(number) = room.first_cell(at) else {
+        if at.part.equal.as_slice().is_empty() {
+            if room.is_cut_off(pool, e, at.part, at.arriving, row, steps) {
                 return FirstLook::Nothing;
             }
             return FirstLook::Unknown;
         }
-        if room.is_clear_ahead(pool, part.extent, &row_at, steps) {
+        if room.is_clear_ahead(pool, e, at, steps) {
             return FirstLook::Nothing;
         }
         return FirstLook::Unknown;
     };
-    let cell = pool.read(part.extent, number, steps);
+    let cell = pool.read(e, number, steps);
     if is_empty(cell) {
         return FirstLook::Nothing;
     }
     if streams != 2 {
         return FirstLook::Unknown;
     }
-    room.look_alone(part.q, &row_at, cell, tuple)
+    room.look_alone(at, cell, tuple)
 }

@@ -27,11 +27,10 @@ use crate::along::Along;
 use crate::links::{meets_links, tuple_of};
 use crate::repeats::is_told;
 use crate::scratch::ProbeScratch;
-use arrayvec::ArrayVec;
 use exec_pool::{Extent, Occupied, Pool, Steps};
 use exec_ranges::{Binding, RowAt, is_empty, rows_in, values_of};
 use exec_synopsis::{Prepared, stream_at};
-use sem_query::{Cell, Pair, PartPlan, Query, Row, Tuple, cell_index};
+use sem_query::{Cell, PartPlan, Query, Row, Tuple, cell_index};
 use std::sync::ledger::Ledger;
 
 /// A level that no walk comes to.
@@ -42,7 +41,7 @@ const NO_LEVEL: usize = 8;
 pub struct Probe<'a> {
     arriving: u8,
     row: &'a Row,
-    pairs: &'a ArrayVec<Pair, 114>,
+    q: &'a Query,
     prepared: &'a Prepared,
     room: &'a mut ProbeScratch,
     level: usize,
@@ -120,7 +119,7 @@ impl<'a> Probe<'a> {
         let mut probe = Probe {
             arriving: pos,
             row,
-            pairs: q.pairs(),
+            q,
             prepared,
             room,
             level: NO_LEVEL,
@@ -180,7 +179,7 @@ impl<'a> Probe<'a> {
         requires below { filled.next < self.old.size }
         requires light { rows_in filled.cell ≤ limit self.old.arriving (length self.old.room.now.chosen.items) }
         ensures underway { IsUnderway part.now self.new }
-        ensures left { (read : Reading) → IsFirst (tried_cell self.old.pairs.now.items part.now read self.old.arriving self.old.row.now.items self.old.room.now.chosen.items) self.old.next self.old.size filled → left_of q.now.select part.now read self.new ≡ left_of q.now.select part.now read self.old }
+        ensures left { (read : Reading) → IsFirst (tried_cell (pairs self.old.q.now) part.now read self.old.arriving self.old.row.now.items self.old.room.now.chosen.items) self.old.next self.old.size filled → left_of q.now.select part.now read self.new ≡ left_of q.now.select part.now read self.old }
         ensures reads { reads_left part.now self.new + (filled.next - self.old.next) + 1 ≤ reads_left part.now self.old }
         ensures turns { turns_left part.now self.new < turns_left part.now self.old }
     {
@@ -193,17 +192,17 @@ impl<'a> Probe<'a> {
     #[inline(never)]
     fn look_other(&mut self, part: &PartPlan)
         requires more { length self.old.room.now.chosen.items < length part.now.streams.items }
-        requires prepared { IsPrepared self.old.pairs.now.items part.now self.old.prepared.now }
+        requires prepared { IsPrepared (pairs self.old.q.now) part.now self.old.prepared.now }
         requires laid { length self.old.room.now.chosen.items ≢ self.old.arriving → IsLaidOut (stream_at part.now (length self.old.room.now.chosen.items)) (2 ^ 32) }
         ensures { HasOpened part.now self.old self.new }
     {
         self.level = self.room.chosen.len();
         let at = RowAt {
-            pairs: self.pairs.as_slice(),
+            q: self.q,
             part,
             prepared: self.prepared,
             arriving: self.arriving,
-            row: self.row.as_slice(),
+            row: self.row,
         };
         self.size = self.room.look_other(&at);
     }
@@ -211,16 +210,16 @@ impl<'a> Probe<'a> {
     // Sees which values there are to try at this level.
     fn look(&mut self, part: &PartPlan)
         requires more { length self.old.room.now.chosen.items < length part.now.streams.items }
-        requires prepared { IsPrepared self.old.pairs.now.items part.now self.old.prepared.now }
+        requires prepared { IsPrepared (pairs self.old.q.now) part.now self.old.prepared.now }
         requires laid { length self.old.room.now.chosen.items ≢ self.old.arriving → IsLaidOut (stream_at part.now (length self.old.room.now.chosen.items)) (2 ^ 32) }
         ensures { HasOpened part.now self.old self.new }
     {
         let at = RowAt {
-            pairs: self.pairs.as_slice(),
+            q: self.q,
             part,
             prepared: self.prepared,
             arriving: self.arriving,
-            row: self.row.as_slice(),
+            row: self.row,
         };
         if self.room.look_pinned(&at) {
             self.level = self.room.chosen.len();
@@ -314,7 +313,7 @@ impl<'a> Probe<'a> {
         requires start { self.old.next ≡ 0 }
         requires going { self.old.over ≡ false }
         ensures underway { IsUnderway part.now self.new }
-        ensures first { self.old.room.now.chosen.items ≡ [] → IsAtStart self.old.pairs.now.items self.old.arriving self.old.row.now.items self.new }
+        ensures first { self.old.room.now.chosen.items ≡ [] → IsAtStart (pairs self.old.q.now) self.old.arriving self.old.row.now.items self.new }
         ensures left { (select : List Attr) (read : Reading) → left_of select part.now read self.new ≡ left_of select part.now read self.old }
         ensures reads { reads_left part.now self.new ≤ reads_left part.now self.old }
         ensures turns { turns_left part.now self.new ≤ turns_left part.now self.old }
@@ -389,11 +388,11 @@ impl<'a> Probe<'a> {
         'turns: while !self.over {
             if self.room.chosen.len() >= streams {
                 let at = RowAt {
-                    pairs: self.pairs.as_slice(),
+                    q: self.q,
                     part,
                     prepared: self.prepared,
                     arriving: self.arriving,
-                    row: self.row.as_slice(),
+                    row: self.row,
                 };
                 let chosen = self.room.chosen.as_slice();
                 if meets_links(&at, chosen) {
@@ -435,11 +434,11 @@ impl<'a> Probe<'a> {
         }
         'levels: while !self.over {
             let at = RowAt {
-                pairs: self.pairs.as_slice(),
+                q: self.q,
                 part,
                 prepared: self.prepared,
                 arriving: self.arriving,
-                row: self.row.as_slice(),
+                row: self.row,
             };
             let known = self.room.chosen.as_slice();
             if !is_told(&at, known, q.select(), tuple.as_slice()) {

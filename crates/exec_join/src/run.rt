@@ -1,5 +1,6 @@
 //! Cells side by side that the equalities leave at a place of a walk.
 ghost use Rattle.std.specs.Prelude.{◌≡◌, ◌≢◌, ℕ, List, ℤ, ◌+◌, ◌*◌, ◌<◌, ◌≤◌, ◌^◌, ◌-ℤ◌, ◌≤ℤ◌, nat_abs, length, true, Some, IfSome};
+ghost use Rattle.sem_query.specs.Parts.{pairs};
 ghost use Rattle.sem_query.specs.Boxes.{dim_size, place_of, AreInside};
 ghost use Rattle.sem_query.specs.Plan.{stream_at, dims_at};
 ghost use Rattle.exec_ranges.specs.Narrowed.{narrowed_dims};
@@ -39,10 +40,10 @@ impl CellRun {
 
 /// Returns the place in a dim of the value of the known column that it equals, where that is one of its values.
 pub fn bound_place(at: &RowAt<'_>, known: &[Binding], dim: Dim, column: Attr) -> Option<u32>
-    requires prepared { IsPrepared at.now.pairs.now at.now.part.now at.now.prepared.now }
+    requires prepared { IsPrepared (pairs at.now.q.now) at.now.part.now at.now.prepared.now }
     requires few { dim_size dim < 2 ^ 32 }
     requires bound { binding_column at.now.arriving (length known.now) dim.attr at.now.part.now.equal.items ≡ Some column }
-    ensures { IfSome result (λ place. (place < dim_size dim) × ((v : ℤ) → (narrow at.now.arriving (length known.now) at.now.part.now.equal.items at.now.part.now.less.items (value_in at.now.pairs.now at.now.part.now at.now.arriving at.now.row.now known.now) dim).lo ≤ℤ v → v ≤ℤ (narrow at.now.arriving (length known.now) at.now.part.now.equal.items at.now.part.now.less.items (value_in at.now.pairs.now at.now.part.now at.now.arriving at.now.row.now known.now) dim).hi → nat_abs (v -ℤ dim.lo) ≡ place) × (dim_size (narrow at.now.arriving (length known.now) at.now.part.now.equal.items at.now.part.now.less.items (value_in at.now.pairs.now at.now.part.now at.now.arriving at.now.row.now known.now) dim) ≡ 1)) }
+    ensures { IfSome result (λ place. (place < dim_size dim) × ((v : ℤ) → (narrow at.now.arriving (length known.now) at.now.part.now.equal.items at.now.part.now.less.items (value_in (pairs at.now.q.now) at.now.part.now at.now.arriving at.now.row.now.items known.now) dim).lo ≤ℤ v → v ≤ℤ (narrow at.now.arriving (length known.now) at.now.part.now.equal.items at.now.part.now.less.items (value_in (pairs at.now.q.now) at.now.part.now at.now.arriving at.now.row.now.items known.now) dim).hi → nat_abs (v -ℤ dim.lo) ≡ place) × (dim_size (narrow at.now.arriving (length known.now) at.now.part.now.equal.items at.now.part.now.less.items (value_in (pairs at.now.q.now) at.now.part.now at.now.arriving at.now.row.now.items known.now) dim) ≡ 1)) }
 {
     let value = value_in(at, known, column);
     if value < dim.lo {
@@ -59,11 +60,11 @@ pub fn bound_place(at: &RowAt<'_>, known: &[Binding], dim: Dim, column: Attr) ->
 pub fn run_of(at: &RowAt<'_>, known: &[Binding]) -> Option<CellRun>
     requires here { length known.now < length at.now.part.now.streams.items }
     requires other { length known.now ≢ at.now.arriving }
-    requires prepared { IsPrepared at.now.pairs.now at.now.part.now at.now.prepared.now }
+    requires prepared { IsPrepared (pairs at.now.q.now) at.now.part.now at.now.prepared.now }
     requires laid { IsLaidOut (stream_at at.now.part.now (length known.now)) (2 ^ 32) }
     ensures room { IfSome result (λ run. run.first + run.count ≤ (stream_at at.now.part.now (length known.now)).base + (stream_at at.now.part.now (length known.now)).size) }
     ensures few { IfSome result (λ run. run.count ≤ tried_size at.now.part.now at.now.arriving (length known.now)) }
-    ensures holds { IfSome result (λ run. (vs : List ℤ) → AreInside (narrowed_dims at.now.pairs.now at.now.part.now at.now.arriving at.now.row.now known.now) vs → (run.first ≤ (stream_at at.now.part.now (length known.now)).base + place_of (dims_at at.now.part.now (length known.now)) vs) × ((stream_at at.now.part.now (length known.now)).base + place_of (dims_at at.now.part.now (length known.now)) vs < run.first + run.count)) }
+    ensures holds { IfSome result (λ run. (vs : List ℤ) → AreInside (narrowed_dims (pairs at.now.q.now) at.now.part.now at.now.arriving at.now.row.now.items known.now) vs → (run.first ≤ (stream_at at.now.part.now (length known.now)).base + place_of (dims_at at.now.part.now (length known.now)) vs) × ((stream_at at.now.part.now (length known.now)).base + place_of (dims_at at.now.part.now (length known.now)) vs < run.first + run.count)) }
 {
     let plan = stream_at(at.part, known.len());
     let mut run = CellRun { first: 0, count: 1 };

@@ -29,11 +29,11 @@ use crate::run::run_of;
 use crate::stack::Bindings;
 use exec_pool::{Extent, Pool, Steps, StridedCells};
 use exec_ranges::{
-    Counts, Dims, PartAt, RowAt, fixed_dims, is_empty, line_of, narrowed_dims, pinned_dims,
-    rows_in, single_dims,
+    Counts, Dims, RowAt, fixed_dims, is_empty, line_of, narrowed_dims, pinned_dims, rows_in,
+    single_dims,
 };
-use exec_synopsis::{Admitted, is_scan, stream_at};
-use sem_query::{Cell, Dim, PartPlan, Query, Tuple, size_of};
+use exec_synopsis::{is_scan, stream_at};
+use sem_query::{Cell, Dim, PartPlan, Tuple, size_of};
 use std::sync::ledger::Ledger;
 
 /// Room for a walk. What it holds between two walks means nothing.
@@ -46,17 +46,34 @@ pub struct ProbeScratch {
     pub(crate) line: Option<StridedCells>,
 }
 
+/// Room to work in, of which nothing is asked: that of a walk, and a tuple.
+#[derive(Drop)]
+pub struct Scratch {
+    pub room: ProbeScratch,
+    pub tuple: Tuple,
+}
+
+impl Scratch {
+    /// Returns room to work in.
+    pub fn new() -> Scratch {
+        Scratch {
+            room: ProbeScratch::default(),
+            tuple: Tuple::new(),
+        }
+    }
+}
+
 impl ProbeScratch {
     // Sees the values to try after these choices, where it is listed that the row's own columns fix
     // them all; else it may not tell.
     pub(crate) fn look_pinned(&mut self, at: &RowAt<'_>) -> bool
         requires more { length self.old.chosen.items < length at.now.part.now.streams.items }
-        requires prepared { IsPrepared at.now.pairs.now at.now.part.now at.now.prepared.now }
+        requires prepared { IsPrepared (pairs at.now.q.now) at.now.part.now at.now.prepared.now }
         requires laid { length self.old.chosen.items ≢ at.now.arriving → IsLaidOut (stream_at at.now.part.now (length self.old.chosen.items)) (2 ^ 32) }
         ensures chosen { self.new.chosen ≡ self.old.chosen }
         ensures numbers { self.new.numbers ≡ self.old.numbers }
         ensures sizes { self.new.sizes ≡ self.old.sizes }
-        ensures fixed { result ≡ true → (self.new.dims.items ≡ narrowed_dims at.now.pairs.now at.now.part.now at.now.arriving at.now.row.now self.old.chosen.items) × (box_size (narrowed_dims at.now.pairs.now at.now.part.now at.now.arriving at.now.row.now self.old.chosen.items) ≡ 1) × StandOn at.now.part.now at.now.arriving (length self.old.chosen.items) (narrowed_dims at.now.pairs.now at.now.part.now at.now.arriving at.now.row.now self.old.chosen.items) self.new.line }
+        ensures fixed { result ≡ true → (self.new.dims.items ≡ narrowed_dims (pairs at.now.q.now) at.now.part.now at.now.arriving at.now.row.now.items self.old.chosen.items) × (box_size (narrowed_dims (pairs at.now.q.now) at.now.part.now at.now.arriving at.now.row.now.items self.old.chosen.items) ≡ 1) × StandOn at.now.part.now at.now.arriving (length self.old.chosen.items) (narrowed_dims (pairs at.now.q.now) at.now.part.now at.now.arriving at.now.row.now.items self.old.chosen.items) self.new.line }
     {
         let place = self.chosen.len();
         if at.arriving as usize == place {
@@ -73,14 +90,14 @@ impl ProbeScratch {
     // whole box where no link with a known column says anything of them, else what is left of one dim after the other.
     pub(crate) fn look_other(&mut self, at: &RowAt<'_>) -> u32
         requires more { length self.old.chosen.items < length at.now.part.now.streams.items }
-        requires prepared { IsPrepared at.now.pairs.now at.now.part.now at.now.prepared.now }
+        requires prepared { IsPrepared (pairs at.now.q.now) at.now.part.now at.now.prepared.now }
         requires laid { length self.old.chosen.items ≢ at.now.arriving → IsLaidOut (stream_at at.now.part.now (length self.old.chosen.items)) (2 ^ 32) }
-        ensures size { result ≡ box_size (narrowed_dims at.now.pairs.now at.now.part.now at.now.arriving at.now.row.now self.old.chosen.items) }
-        ensures dims { self.new.dims.items ≡ narrowed_dims at.now.pairs.now at.now.part.now at.now.arriving at.now.row.now self.old.chosen.items }
+        ensures size { result ≡ box_size (narrowed_dims (pairs at.now.q.now) at.now.part.now at.now.arriving at.now.row.now.items self.old.chosen.items) }
+        ensures dims { self.new.dims.items ≡ narrowed_dims (pairs at.now.q.now) at.now.part.now at.now.arriving at.now.row.now.items self.old.chosen.items }
         ensures chosen { self.new.chosen ≡ self.old.chosen }
         ensures numbers { self.new.numbers ≡ self.old.numbers }
         ensures sizes { self.new.sizes ≡ self.old.sizes }
-        ensures line { StandOn at.now.part.now at.now.arriving (length self.old.chosen.items) (narrowed_dims at.now.pairs.now at.now.part.now at.now.arriving at.now.row.now self.old.chosen.items) self.new.line }
+        ensures line { StandOn at.now.part.now at.now.arriving (length self.old.chosen.items) (narrowed_dims (pairs at.now.q.now) at.now.part.now at.now.arriving at.now.row.now.items self.old.chosen.items) self.new.line }
     {
         let place = self.chosen.len();
         if at.arriving as usize == place {
@@ -123,10 +140,10 @@ impl ProbeScratch {
 
     /// Tells the number of the cell to which a walk comes first, where it is listed that this one alone is left there.
     pub(crate) fn first_cell(&mut self, at: &RowAt<'_>) -> Option<u32>
-        requires prepared { IsPrepared at.now.pairs.now at.now.part.now at.now.prepared.now }
+        requires prepared { IsPrepared (pairs at.now.q.now) at.now.part.now at.now.prepared.now }
         requires laid { length (start at.now.arriving) < length at.now.part.now.streams.items → IsLaidOut (stream_at at.now.part.now (length (start at.now.arriving))) (2 ^ 32) }
         ensures chosen { self.new.chosen.items ≡ start at.now.arriving }
-        ensures first { IfSome result (λ first. (length (start at.now.arriving) < length at.now.part.now.streams.items) × AreFixed at.now.part.now (length (start at.now.arriving)) (narrowed_dims at.now.pairs.now at.now.part.now at.now.arriving at.now.row.now (start at.now.arriving)) self.new.dims.items first) }
+        ensures first { IfSome result (λ first. (length (start at.now.arriving) < length at.now.part.now.streams.items) × AreFixed at.now.part.now (length (start at.now.arriving)) (narrowed_dims (pairs at.now.q.now) at.now.part.now at.now.arriving at.now.row.now.items (start at.now.arriving)) self.new.dims.items first) }
     {
         self.begin(at.arriving);
         if self.chosen.len() >= at.part.streams.as_slice().len() {
@@ -157,25 +174,19 @@ impl ProbeScratch {
     /// Tells what the cell tells to which a walk over two streams comes first, where it alone is left there and is not empty, and puts the
     /// tuple where there is one. It is not inlined: most cells are empty.
     #[inline(never)]
-    pub(crate) fn look_alone(
-        &mut self,
-        q: &Query,
-        at: &RowAt<'_>,
-        cell: Cell,
-        tuple: &mut Tuple,
-    ) -> FirstLook
-        requires prepared { IsPrepared at.now.pairs.now at.now.part.now at.now.prepared.now }
+    pub(crate) fn look_alone(&mut self, at: &RowAt<'_>, cell: Cell, tuple: &mut Tuple) -> FirstLook
+        requires prepared { IsPrepared (pairs at.now.q.now) at.now.part.now at.now.prepared.now }
         requires chosen { self.old.chosen.items ≡ start at.now.arriving }
         requires one { box_size self.old.dims.items ≡ 1 }
         ensures sure { result ≡ look.Unknown → ⊥ }
-        ensures found { (read : Reading) → Tells result tuple.new.items (walk (setting at.now.pairs.now q.now.select at.now.part.now at.now.arriving at.now.row.now read) 0 (both at.now.arriving (map (λ d. d.lo) self.old.dims.items) cell)) }
+        ensures found { (read : Reading) → Tells result tuple.new.items (walk (setting (pairs at.now.q.now) at.now.q.now.select at.now.part.now at.now.arriving at.now.row.now.items read) 0 (both at.now.arriving (map (λ d. d.lo) self.old.dims.items) cell)) }
     {
         self.take_both(at.arriving, cell);
         let known = self.chosen.as_slice();
         if !meets_links(at, known) {
             return FirstLook::Nothing;
         }
-        tuple_of(at, known, q.select(), tuple);
+        tuple_of(at, known, at.q.select(), tuple);
         FirstLook::One(rows_in(cell))
     }
 
@@ -190,9 +201,9 @@ impl ProbeScratch {
     ) -> bool
         requires chosen { self.now.chosen.items ≡ start at.now.arriving }
         requires live { IsLive pool.now e.now }
-        requires prepared { IsPrepared at.now.pairs.now at.now.part.now at.now.prepared.now }
+        requires prepared { IsPrepared (pairs at.now.q.now) at.now.part.now at.now.prepared.now }
         requires laid { length (start at.now.arriving) < length at.now.part.now.streams.items → IsLaidOut (stream_at at.now.part.now (length (start at.now.arriving))) (64 * e.now.pages) }
-        ensures clear { result ≡ true → IsClearAhead at.now.pairs.now at.now.part.now (read_from (cells_of pool.now e.now)) at.now.arriving at.now.row.now }
+        ensures clear { result ≡ true → IsClearAhead (pairs at.now.q.now) at.now.part.now (read_from (cells_of pool.now e.now)) at.now.arriving at.now.row.now.items }
         ensures reads { (steps.new.reads ≡ steps.old.reads) ⊎ ((length (start at.now.arriving) < length at.now.part.now.streams.items) × (2 * steps.new.reads ≤ 2 * steps.old.reads + tried_size at.now.part.now at.now.arriving (length (start at.now.arriving)))) }
         ensures writes { steps.new.writes ≡ steps.old.writes }
     {
@@ -214,40 +225,33 @@ impl ProbeScratch {
     pub fn look_along<L: Ledger>(
         &mut self,
         pool: &Pool,
-        part: &PartAt<'_>,
-        at: &Admitted<'_>,
+        e: &Extent,
+        at: &RowAt<'_>,
         steps: &mut Steps<L>,
     ) -> Along
-        requires here { at.now.pos < length part.now.q.now.from }
-        requires ready { IsReady part.now.q.now part.now.plan.now pool.now part.now.extent.now }
-        requires prepared { IsPrepared (pairs part.now.q.now) part.now.plan.now part.now.prepared.now }
-        ensures seen { SeenAlong (pairs part.now.q.now) part.now.plan.now (read_from (cells_of pool.now part.now.extent.now)) at.now.pos at.now.row.now.items (start at.now.pos) steps.old.reads result steps.new.reads }
-        ensures found { IsCandidate (pairs part.now.q.now) part.now.plan.now at.now.pos at.now.row.now.items (start at.now.pos) result }
-        ensures nothing { result ≡ along.Nothing → found_beside part.now.q.now part.now.plan.now (read_from (cells_of pool.now part.now.extent.now)) at.now.pos (by_column at.now.row.now.items) ≡ [] }
-        ensures few { result ≡ along.Nothing → steps.new.reads ≤ steps.old.reads + walk_reads part.now.plan.now at.now.pos }
+        requires here { at.now.arriving < length at.now.q.now.from }
+        requires ready { IsReady at.now.q.now at.now.part.now pool.now e.now }
+        requires prepared { IsPrepared (pairs at.now.q.now) at.now.part.now at.now.prepared.now }
+        ensures seen { SeenAlong (pairs at.now.q.now) at.now.part.now (read_from (cells_of pool.now e.now)) at.now.arriving at.now.row.now.items (start at.now.arriving) steps.old.reads result steps.new.reads }
+        ensures found { IsCandidate (pairs at.now.q.now) at.now.part.now at.now.arriving at.now.row.now.items (start at.now.arriving) result }
+        ensures nothing { result ≡ along.Nothing → found_beside at.now.q.now at.now.part.now (read_from (cells_of pool.now e.now)) at.now.arriving (by_column at.now.row.now.items) ≡ [] }
+        ensures few { result ≡ along.Nothing → steps.new.reads ≤ steps.old.reads + walk_reads at.now.part.now at.now.arriving }
         ensures writes { steps.new.writes ≡ steps.old.writes }
     {
         // Read for the proof alone: the call tells how many streams there are.
-        let _from = part.q.from();
-        self.begin(at.pos);
-        if self.chosen.len() >= part.plan.streams.as_slice().len() {
+        let _from = at.q.from();
+        self.begin(at.arriving);
+        if self.chosen.len() >= at.part.streams.as_slice().len() {
             return Along::Unasked;
         }
-        let row_at = RowAt {
-            pairs: part.q.pairs().as_slice(),
-            part: part.plan,
-            prepared: part.prepared,
-            arriving: at.pos,
-            row: at.row.as_slice(),
-        };
-        let Some(line) = line_ahead(&row_at, self.chosen.as_slice()) else {
+        let Some(line) = line_ahead(at, self.chosen.as_slice()) else {
             return Along::Unasked;
         };
         let cells = StridedCells {
             first: line.first,
             stride: line.stride,
         };
-        match pool.first_occupied(part.extent, cells, 0, line.count, steps) {
+        match pool.first_occupied(e, cells, 0, line.count, steps) {
             Some(filled) => Along::Found(filled),
             None => Along::Nothing,
         }

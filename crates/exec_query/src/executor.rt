@@ -22,18 +22,18 @@ ghost use Rattle.exec_query.specs.Written.{answer_lines};
 use crate::access::{Access, access_of};
 use crate::filter::{filter_row, plain_filter_row};
 use crate::output::gather_listed;
-use crate::part::Scratch;
 use crate::route::{apply_along, place_of};
 use crate::two_cells::{meet_cells, take_up_anew};
 use exec_answer_lines::AnswerLines;
 use exec_answer_table::Answers;
 use exec_filter::{Prefilter, prefilter_of};
-use exec_part_index::{Led, PreparedPlan, prepare_all};
+use exec_join::Scratch;
+use exec_part_index::{Led, prepare_all};
 use exec_pool::{Extent, Pool, Steps};
 use exec_query_index::QueryBox;
 use exec_ranges::is_empty;
 use exec_restore::{cell_to_load, fill, put_printed};
-use exec_saturation::{Cursor, LookedAt, Saturation, look_beside_row};
+use exec_saturation::{Cursor, PlannedQuery, Saturation, look_beside_row};
 use io_streams::{Sink, WriteFault};
 use sem_query::{Cell, Plan, Query, Row, Tuple};
 use sql_text::Name;
@@ -54,12 +54,9 @@ pub struct Executor {
     prefilter: Prefilter,
     access: Access,
     table: Answers,
-    query: Query,
+    planned: PlannedQuery,
     shared: bool,
-    plan: Plan,
-    prepared: PreparedPlan,
     saturation: Saturation,
-    extent: Extent,
     scratch: Scratch,
 }
 
@@ -72,9 +69,9 @@ impl Model for Executor {
 
     ghost Value = { ExecutorValue };
 
-    ghost view = { λ e. record { query = e.query; shared = e.shared; plan = e.plan; extent = e.extent; given = e.given; table = e.table; saturation = e.saturation } };
+    ghost view = { λ e. record { query = e.planned.query; shared = e.shared; plan = e.planned.plan; extent = e.planned.extent; given = e.given; table = e.table; saturation = e.saturation } };
 
-    ghost invariant = { λ e. IsSound (record { query = e.query; shared = e.shared; plan = e.plan; extent = e.extent; given = e.given; table = e.table; saturation = e.saturation }) × IsPreparedPlan e.query (parts_of e.plan) e.prepared × IsPrefilter e.query e.plan e.prefilter × IsAccess e.query e.plan e.prefilter e.access };
+    ghost invariant = { λ e. IsSound (record { query = e.planned.query; shared = e.shared; plan = e.planned.plan; extent = e.planned.extent; given = e.given; table = e.table; saturation = e.saturation }) × IsPreparedPlan e.planned.query (parts_of e.planned.plan) e.planned.prepared × IsPrefilter e.planned.query e.planned.plan e.prefilter × IsAccess e.planned.query e.planned.plan e.prefilter e.access };
 }
 
 // For how many answers a query with this plan has room.
@@ -143,12 +140,14 @@ impl Executor {
                 prefilter,
                 access,
                 table,
-                query,
+                planned: PlannedQuery {
+                    query,
+                    plan,
+                    prepared,
+                    extent,
+                },
                 shared,
-                plan,
-                prepared,
                 saturation: Saturation::All,
-                extent,
                 scratch: Scratch::new(),
             }),
             Err(error) => Err((extent, error)),
@@ -206,22 +205,24 @@ impl Executor {
         ensures none { result ≡ false → waiting_in self.new ≡ [] }
         ensures steps { KeepsToWork self.old (arrival stream row.now.items) steps.old steps.new }
     {
-        let (Access::PointLookup(lookups), Plan::Parts { parts, .. }) = (&self.access, &self.plan)
-        else {
+        let (Access::PointLookup(lookups), Plan::Parts { parts, .. }) = (
+            &self.access,
+            &self.planned.plan,
+        ) else {
             return self.apply_by_plan(is_within, pool, stream, row, steps);
         };
         let Some(direct) = lookups.of_stream(stream) else {
             return self.apply_by_plan(is_within, pool, stream, row, steps);
         };
         self.given += 1;
-        let (q, extent) = (&self.query, &self.extent);
+        let (q, extent) = (&self.planned.query, &self.planned.extent);
         let there = meet_cells(pool, q, extent, parts, direct, row, steps);
         if is_empty(there) {
-            clear(self.query.distinct(), &mut self.table);
+            clear(self.planned.query.distinct(), &mut self.table);
             return false;
         }
         let (tuple, table) = (&mut self.scratch.tuple, &mut self.table);
-        take_up_anew(&self.query, direct, row, there, tuple, table);
+        take_up_anew(&self.planned.query, direct, row, there, tuple, table);
         true
     }
 
@@ -252,9 +253,9 @@ impl Executor {
             self.look_on(pool, stream, cursor, steps);
         }
         self.given += 1;
-        clear(self.query.distinct(), &mut self.table);
-        let (q, prepared, table) = (&self.query, &self.prepared, &mut self.table);
-        match &self.plan {
+        clear(self.planned.query.distinct(), &mut self.table);
+        let (q, prepared, table) = (&self.planned.query, &self.planned.prepared, &mut self.table);
+        match &self.planned.plan {
             Plan::Filter => filter_row(q, stream, row, &mut self.scratch.tuple, table),
             Plan::Parts { parts, .. } => match place_of(q.from(), stream) {
                 Some(pos) => {
@@ -269,7 +270,7 @@ impl Executor {
                         part_index,
                         each: part_index.each_owns(q, parts, pos),
                         prepared,
-                        extent: &self.extent,
+                        extent: &self.planned.extent,
                         known: self.saturation.spares(q),
                     };
                     apply_along(pool, &led, hit.first, &mut self.scratch, table, steps)
@@ -289,15 +290,8 @@ impl Executor {
         requires here { self.old.saturation ≡ saturation.Before cursor }
         ensures { HasLooked self.old pool.now stream self.new steps.old steps.new }
     {
-        let all = LookedAt {
-            q: &self.query,
-            plan: &self.plan,
-            prepared: &self.prepared,
-            extent: &self.extent,
-            table: &self.table,
-        };
-        let (room, tuple) = (&mut self.scratch.room, &mut self.scratch.tuple);
-        self.saturation = look_beside_row(pool, &all, stream, cursor, room, tuple, steps);
+        let (planned, table, scratch) = (&self.planned, &self.table, &mut self.scratch);
+        self.saturation = look_beside_row(pool, planned, stream, cursor, table, scratch, steps);
     }
 
     /// Gathers a line for each answer that waits, in ascending order, behind what is gathered, of which some may be written. Where it is said
@@ -395,8 +389,15 @@ impl Executor {
         ensures reads { steps.new.reads ≤ steps.old.reads + min 1 (sizes_in (list_in self.old)) }
         ensures writes { steps.new.writes ≤ steps.old.writes + min 1 (sizes_in (list_in self.old)) }
     {
-        let filled = match cell_to_load(&self.query, self.shared, &self.plan, self.given, i, v) {
-            Some(cell) => fill(pool, &self.extent, i, cell, steps),
+        let filled = match cell_to_load(
+            &self.planned.query,
+            self.shared,
+            &self.planned.plan,
+            self.given,
+            i,
+            v,
+        ) {
+            Some(cell) => fill(pool, &self.planned.extent, i, cell, steps),
             None => false,
         };
         self.saturation = self.saturation.after_load(filled);
@@ -414,7 +415,13 @@ impl Executor {
         ensures kept { (pool : PoolValue) → AreKept self.old pool → AreKept self.new pool }
         ensures within { (pool : PoolValue) → KeepsWithin self.old pool → KeepsWithin self.new pool }
     {
-        put_printed(&self.query, &self.plan, &self.prepared, t, &mut self.table)
+        put_printed(
+            &self.planned.query,
+            &self.planned.plan,
+            &self.planned.prepared,
+            t,
+            &mut self.table,
+        )
     }
 
     /// Counts rows up to a number as given that are refused: all else is as before.
@@ -456,7 +463,7 @@ impl Executor {
     pub fn printed(&self) -> u32
         ensures { result ≡ (if self.now.query.distinct then length (tuples_in self.now) else 0) }
     {
-        if self.query.distinct() {
+        if self.planned.query.distinct() {
             self.table.len()
         } else {
             0
@@ -480,7 +487,7 @@ impl Executor {
         ensures reads { steps.new.reads ≡ steps.old.reads + 1 }
         ensures writes { steps.new.writes ≡ steps.old.writes }
     {
-        pool.read(&self.extent, i, steps)
+        pool.read(&self.planned.extent, i, steps)
     }
 
     /// Returns the query.
@@ -488,7 +495,7 @@ impl Executor {
         ensures value { result.now ≡ self.now.query }
         ensures sound { IsSound self.now }
     {
-        &self.query
+        &self.planned.query
     }
 
     /// Returns its plan.
@@ -496,7 +503,7 @@ impl Executor {
         ensures value { result.now ≡ self.now.plan }
         ensures sound { IsSound self.now }
     {
-        &self.plan
+        &self.planned.plan
     }
 
     /// Gives the pages of the cells back.
@@ -509,14 +516,17 @@ impl Executor {
             prefilter: _prefilter,
             access: _access,
             table: _table,
-            query: _query,
+            planned,
             shared: _,
-            plan: _plan,
-            prepared: _prepared,
             saturation: _,
-            extent,
             scratch: _scratch,
         } = self;
+        let PlannedQuery {
+            query: _query,
+            plan: _plan,
+            prepared: _prepared,
+            extent,
+        } = planned;
         pool.give_back(extent);
     }
 }

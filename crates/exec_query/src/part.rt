@@ -31,80 +31,72 @@ ghost use Rattle.exec_query.specs.Reads.{most_reads};
 ghost use Rattle.exec_part_index.specs.Leaving.{reads_of};
 
 use exec_answer_table::Answers;
-use exec_join::{FirstLook, Probe, ProbeScratch, first_look, is_nothing, look_before_walk};
+use exec_join::{
+    FirstLook, Probe, ProbeScratch, Scratch, first_look, is_nothing, look_before_walk,
+};
 use exec_point_lookup::determined_tuple;
-use exec_pool::{Pool, Steps};
-use exec_ranges::PartAt;
-use exec_synopsis::{Admitted, OwnCell, own_cell, put_own};
+use exec_pool::{Extent, Pool, Steps};
+use exec_ranges::RowAt;
+use exec_synopsis::{Admitted, OwnCell, Placement, own_cell, put_own};
 use sem_query::Tuple;
 use std::sync::ledger::Ledger;
 
 /// The most times that one answer waits.
 pub const MOST_TIMES: u128 = 1 << 127;
 
-/// How a part takes a row: whether it takes it into a box of its own; and the row's own cell, where it was read.
-#[derive(Clone, Copy, Debug, PartialEq, Eq, Drop)]
+/// How a part takes a row: where the row stands there, whether the part takes it into a box of its own, and the row's own cell, where it was read.
+#[derive(Clone, Copy, Debug, PartialEq, Eq)]
 pub struct Takes {
+    pub placement: Placement,
     pub owns: bool,
     pub own: Option<OwnCell>,
-}
-
-/// Room to work in, of which nothing is asked.
-#[derive(Drop)]
-pub struct Scratch {
-    pub room: ProbeScratch,
-    pub tuple: Tuple,
-}
-
-impl Scratch {
-    /// Returns room to work in.
-    pub fn new() -> Scratch {
-        Scratch {
-            room: ProbeScratch::default(),
-            tuple: Tuple::new(),
-        }
-    }
 }
 
 /// Takes a row into a part that admits it: all that the cells answer to it is taken up, and where the part takes rows into a box of its
 /// own, the row's own cell takes it, which is not read again where it was read. Returns false where no cell changed.
 pub fn apply_to_part<L: Ledger>(
     pool: &mut Pool,
-    part: &PartAt<'_>,
-    at: &Admitted<'_>,
+    e: &Extent,
+    at: &RowAt<'_>,
     takes: Takes,
     scratch: &mut Scratch,
     table: &mut Answers,
     steps: &mut Steps<L>,
 ) -> bool
-    requires here { at.now.pos < length part.now.q.now.from }
-    requires ready { IsReady part.now.q.now part.now.plan.now pool.old part.now.extent.now }
-    requires prepared { IsPrepared (pairs part.now.q.now) part.now.plan.now part.now.prepared.now }
-    requires admitted { admits part.now.q.now part.now.plan.now at.now.pos (by_column at.now.row.now.items) ≡ true }
-    requires placement { IsCell part.now.plan.now at.now.pos at.now.row.now.items at.now.placement }
-    requires own { IfSome takes.own (λ cell. IsOwnCell part.now.plan.now at.now.pos at.now.row.now.items (cells_of pool.old part.now.extent.now) cell × (cell.number < 64 * part.now.extent.now.pages)) }
-    requires several { takes.owns ≡ true → 1 < length part.now.q.now.from }
-    requires counts { takes.owns ≡ true → CanCount part.now.plan.now (read_from (cells_of pool.old part.now.extent.now)) }
-    requires room { HaveRoom part.now.q.now.distinct (found_in part.now.q.now part.now.plan.now (read_from (cells_of pool.old part.now.extent.now)) (arrives part.now.q.now at.now.pos at.now.row.now.items)) table.old }
-    ensures table { table.new ≡ with_entries table.old (with_all part.now.q.now.distinct (found_in part.now.q.now part.now.plan.now (read_from (cells_of pool.old part.now.extent.now)) (arrives part.now.q.now at.now.pos at.now.row.now.items)) table.old.entries) }
-    ensures pool { pool.new ≡ with_row takes.owns part.now.q.now part.now.plan.now at.now.pos at.now.row.now.items part.now.extent.now pool.old }
+    requires here { at.now.arriving < length at.now.q.now.from }
+    requires ready { IsReady at.now.q.now at.now.part.now pool.old e.now }
+    requires prepared { IsPrepared (pairs at.now.q.now) at.now.part.now at.now.prepared.now }
+    requires admitted { admits at.now.q.now at.now.part.now at.now.arriving (by_column at.now.row.now.items) ≡ true }
+    requires placement { IsCell at.now.part.now at.now.arriving at.now.row.now.items takes.placement }
+    requires own { IfSome takes.own (λ cell. IsOwnCell at.now.part.now at.now.arriving at.now.row.now.items (cells_of pool.old e.now) cell × (cell.number < 64 * e.now.pages)) }
+    requires several { takes.owns ≡ true → 1 < length at.now.q.now.from }
+    requires counts { takes.owns ≡ true → CanCount at.now.part.now (read_from (cells_of pool.old e.now)) }
+    requires room { HaveRoom at.now.q.now.distinct (found_in at.now.q.now at.now.part.now (read_from (cells_of pool.old e.now)) (arrives at.now.q.now at.now.arriving at.now.row.now.items)) table.old }
+    ensures table { table.new ≡ with_entries table.old (with_all at.now.q.now.distinct (found_in at.now.q.now at.now.part.now (read_from (cells_of pool.old e.now)) (arrives at.now.q.now at.now.arriving at.now.row.now.items)) table.old.entries) }
+    ensures pool { pool.new ≡ with_row takes.owns at.now.q.now at.now.part.now at.now.arriving at.now.row.now.items e.now pool.old }
     ensures same { result ≡ false → pool.new ≡ pool.old }
-    ensures reads { steps.new.reads + reads_of takes.own ≤ steps.old.reads + most_reads part.now.plan.now + 1 }
+    ensures reads { steps.new.reads + reads_of takes.own ≤ steps.old.reads + most_reads at.now.part.now + 1 }
     ensures writes { steps.new.writes ≤ steps.old.writes + 1 }
 {
     // Read for the proof alone: the call tells how many streams there are.
-    let _from = part.q.from();
+    let _from = at.q.from();
     let own = if takes.owns {
         Some(match takes.own {
             Some(own) => own,
-            None => own_cell(pool, part.extent, part.q, part.plan, at, steps),
+            None => {
+                let there = Admitted {
+                    pos: at.arriving,
+                    placement: takes.placement,
+                };
+                own_cell(pool, e, at.q, at.part, at.row, there, steps)
+            }
         })
     } else {
         None
     };
-    // Copies for the call that is not inlined, so that the others stay in registers.
-    let (met, row) = (*part, *at);
-    answer_and_put(pool, &met, &row, &own, scratch, table, steps);
+    // A copy for the call that is not inlined, so that the other stays in registers.
+    let met = *at;
+    answer_and_put(pool, e, &met, &own, scratch, table, steps);
     takes.owns
 }
 
@@ -113,33 +105,31 @@ pub fn apply_to_part<L: Ledger>(
 #[inline(never)]
 fn answer_and_put<L: Ledger>(
     pool: &mut Pool,
-    part: &PartAt<'_>,
-    at: &Admitted<'_>,
+    e: &Extent,
+    at: &RowAt<'_>,
     own: &Option<OwnCell>,
     scratch: &mut Scratch,
     table: &mut Answers,
     steps: &mut Steps<L>,
 )
-    requires here { at.now.pos < length part.now.q.now.from }
-    requires ready { IsReady part.now.q.now part.now.plan.now pool.old part.now.extent.now }
-    requires prepared { IsPrepared (pairs part.now.q.now) part.now.plan.now part.now.prepared.now }
-    requires own { IfSome own.now (λ cell. IsOwnCell part.now.plan.now at.now.pos at.now.row.now.items (cells_of pool.old part.now.extent.now) cell × (cell.number < 64 * part.now.extent.now.pages) × HasRoom cell.held) }
-    requires room { HaveRoom part.now.q.now.distinct (found_beside part.now.q.now part.now.plan.now (read_from (cells_of pool.old part.now.extent.now)) at.now.pos (by_column at.now.row.now.items)) table.old }
-    ensures table { table.new ≡ with_entries table.old (with_all part.now.q.now.distinct (found_beside part.now.q.now part.now.plan.now (read_from (cells_of pool.old part.now.extent.now)) at.now.pos (by_column at.now.row.now.items)) table.old.entries) }
-    ensures pool { MatchOption own.now (pool.new ≡ pool.old) (λ cell. pool.new ≡ with_cells pool.old part.now.extent.now (cells_with_row part.now.plan.now at.now.pos at.now.row.now.items (cells_of pool.old part.now.extent.now))) }
-    ensures reads { steps.new.reads ≤ steps.old.reads + most_reads part.now.plan.now }
+    requires here { at.now.arriving < length at.now.q.now.from }
+    requires ready { IsReady at.now.q.now at.now.part.now pool.old e.now }
+    requires prepared { IsPrepared (pairs at.now.q.now) at.now.part.now at.now.prepared.now }
+    requires own { IfSome own.now (λ cell. IsOwnCell at.now.part.now at.now.arriving at.now.row.now.items (cells_of pool.old e.now) cell × (cell.number < 64 * e.now.pages) × HasRoom cell.held) }
+    requires room { HaveRoom at.now.q.now.distinct (found_beside at.now.q.now at.now.part.now (read_from (cells_of pool.old e.now)) at.now.arriving (by_column at.now.row.now.items)) table.old }
+    ensures table { table.new ≡ with_entries table.old (with_all at.now.q.now.distinct (found_beside at.now.q.now at.now.part.now (read_from (cells_of pool.old e.now)) at.now.arriving (by_column at.now.row.now.items)) table.old.entries) }
+    ensures pool { MatchOption own.now (pool.new ≡ pool.old) (λ cell. pool.new ≡ with_cells pool.old e.now (cells_with_row at.now.part.now at.now.arriving at.now.row.now.items (cells_of pool.old e.now))) }
+    ensures reads { steps.new.reads ≤ steps.old.reads + most_reads at.now.part.now }
     ensures writes { steps.new.writes ≤ steps.old.writes + 1 }
 {
     let (room, tuple) = (&mut scratch.room, &mut scratch.tuple);
-    match first_look(pool, part, at, tuple, steps) {
+    match first_look(pool, e, at, tuple, steps) {
         FirstLook::Nothing => {}
-        FirstLook::One(count) => {
-            record_found(part.q.distinct(), tuple, u128::from(count), table)
-        }
-        FirstLook::Unknown => look_then_walk(pool, part, at, room, tuple, table, steps),
+        FirstLook::One(count) => { record_found(at.q.distinct(), tuple, u128::from(count), table) }
+        FirstLook::Unknown => look_then_walk(pool, e, at, room, tuple, table, steps),
     }
     match own {
-        Some(own) => put_own(pool, part.extent, part.plan, at, own, steps),
+        Some(own) => put_own(pool, e, at.part, at.row, at.arriving, own, steps),
         None => {}
     }
 }
@@ -149,34 +139,32 @@ fn answer_and_put<L: Ledger>(
 #[inline(never)]
 fn look_then_walk<L: Ledger>(
     pool: &Pool,
-    part: &PartAt<'_>,
-    at: &Admitted<'_>,
+    e: &Extent,
+    at: &RowAt<'_>,
     room: &mut ProbeScratch,
     tuple: &mut Tuple,
     table: &mut Answers,
     steps: &mut Steps<L>,
 )
-    requires here { at.now.pos < length part.now.q.now.from }
-    requires ready { IsReady part.now.q.now part.now.plan.now pool.now part.now.extent.now }
-    requires prepared { IsPrepared (pairs part.now.q.now) part.now.plan.now part.now.prepared.now }
-    requires room { HaveRoom part.now.q.now.distinct (found_beside part.now.q.now part.now.plan.now (read_from (cells_of pool.now part.now.extent.now)) at.now.pos (by_column at.now.row.now.items)) table.old }
-    ensures table { table.new ≡ with_entries table.old (with_all part.now.q.now.distinct (found_beside part.now.q.now part.now.plan.now (read_from (cells_of pool.now part.now.extent.now)) at.now.pos (by_column at.now.row.now.items)) table.old.entries) }
-    ensures reads { steps.new.reads ≤ steps.old.reads + most_reads part.now.plan.now }
+    requires here { at.now.arriving < length at.now.q.now.from }
+    requires ready { IsReady at.now.q.now at.now.part.now pool.now e.now }
+    requires prepared { IsPrepared (pairs at.now.q.now) at.now.part.now at.now.prepared.now }
+    requires room { HaveRoom at.now.q.now.distinct (found_beside at.now.q.now at.now.part.now (read_from (cells_of pool.now e.now)) at.now.arriving (by_column at.now.row.now.items)) table.old }
+    ensures table { table.new ≡ with_entries table.old (with_all at.now.q.now.distinct (found_beside at.now.q.now at.now.part.now (read_from (cells_of pool.now e.now)) at.now.arriving (by_column at.now.row.now.items)) table.old.entries) }
+    ensures reads { steps.new.reads ≤ steps.old.reads + most_reads at.now.part.now }
     ensures writes { steps.new.writes ≡ steps.old.writes }
 {
     // In an empty table nothing is searched.
     if table.len() != 0
-        && determined_tuple(part.q, part.plan, at.pos, at.row, tuple)
+        && determined_tuple(at.q, at.part, at.arriving, at.row, tuple)
         && table.has(tuple)
     {
         return;
     }
-    match look_before_walk(pool, part, at, room, tuple, steps) {
+    match look_before_walk(pool, e, at, room, tuple, steps) {
         FirstLook::Nothing => {}
-        FirstLook::One(count) => {
-            record_found(part.q.distinct(), tuple, u128::from(count), table)
-        }
-        FirstLook::Unknown => walk(pool, part, at, room, tuple, table, steps),
+        FirstLook::One(count) => { record_found(at.q.distinct(), tuple, u128::from(count), table) }
+        FirstLook::Unknown => walk(pool, e, at, room, tuple, table, steps),
     }
 }
 
@@ -185,35 +173,35 @@ fn look_then_walk<L: Ledger>(
 #[inline(never)]
 fn walk<L: Ledger>(
     pool: &Pool,
-    part: &PartAt<'_>,
-    at: &Admitted<'_>,
+    e: &Extent,
+    at: &RowAt<'_>,
     room: &mut ProbeScratch,
     tuple: &mut Tuple,
     table: &mut Answers,
     steps: &mut Steps<L>,
 )
-    requires here { at.now.pos < length part.now.q.now.from }
-    requires ready { IsReady part.now.q.now part.now.plan.now pool.now part.now.extent.now }
-    requires prepared { IsPrepared (pairs part.now.q.now) part.now.plan.now part.now.prepared.now }
-    requires room { HaveRoom part.now.q.now.distinct (found_beside part.now.q.now part.now.plan.now (read_from (cells_of pool.now part.now.extent.now)) at.now.pos (by_column at.now.row.now.items)) table.old }
-    ensures table { table.new ≡ with_entries table.old (with_all part.now.q.now.distinct (found_beside part.now.q.now part.now.plan.now (read_from (cells_of pool.now part.now.extent.now)) at.now.pos (by_column at.now.row.now.items)) table.old.entries) }
-    ensures reads { steps.new.reads ≤ steps.old.reads + walk_reads part.now.plan.now at.now.pos }
+    requires here { at.now.arriving < length at.now.q.now.from }
+    requires ready { IsReady at.now.q.now at.now.part.now pool.now e.now }
+    requires prepared { IsPrepared (pairs at.now.q.now) at.now.part.now at.now.prepared.now }
+    requires room { HaveRoom at.now.q.now.distinct (found_beside at.now.q.now at.now.part.now (read_from (cells_of pool.now e.now)) at.now.arriving (by_column at.now.row.now.items)) table.old }
+    ensures table { table.new ≡ with_entries table.old (with_all at.now.q.now.distinct (found_beside at.now.q.now at.now.part.now (read_from (cells_of pool.now e.now)) at.now.arriving (by_column at.now.row.now.items)) table.old.entries) }
+    ensures reads { steps.new.reads ≤ steps.old.reads + walk_reads at.now.part.now at.now.arriving }
     ensures writes { steps.new.writes ≡ steps.old.writes }
 {
-    let seen = room.look_along(pool, part, at, steps);
+    let seen = room.look_along(pool, e, at, steps);
     if is_nothing(seen) {
         return;
     }
-    let (q, plan, prepared) = (part.q, part.plan, part.prepared);
-    let mut probe = Probe::new_behind(q, plan, prepared, at.pos, at.row, room, seen);
-    if determined_tuple(q, plan, at.pos, at.row, tuple) {
-        match probe.next(pool, part.extent, q, plan, tuple, steps) {
+    let (q, plan, prepared) = (at.q, at.part, at.prepared);
+    let mut probe = Probe::new_behind(q, plan, prepared, at.arriving, at.row, room, seen);
+    if determined_tuple(q, plan, at.arriving, at.row, tuple) {
+        match probe.next(pool, e, q, plan, tuple, steps) {
             Some(count) => record_found(true, tuple, count, table),
             None => {}
         }
         return;
     }
-    'walk: while let Some(count) = probe.next(pool, part.extent, q, plan, tuple, steps) {
+    'walk: while let Some(count) = probe.next(pool, e, q, plan, tuple, steps) {
         record_found(q.distinct(), tuple, count, table);
         probe.pass_repeats(q, plan, tuple);
     }

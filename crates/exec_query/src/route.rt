@@ -12,12 +12,12 @@ ghost use Rattle.exec_part_index.specs.Owners.{EachTakes};
 ghost use Rattle.exec_part_index.specs.PartIndex.{IsPartIndex, IsNext, buckets, row_bucket, row_code};
 ghost use Rattle.exec_part_index.specs.Prepared.{IsPreparedPlan};
 
-use crate::part::{Scratch, Takes, apply_to_part};
+use crate::part::{Takes, apply_to_part};
 use exec_answer_table::Answers;
+use exec_join::Scratch;
 use exec_part_index::{CellAt, Led, Reached, reach};
 use exec_pool::{Pool, Steps};
-use exec_ranges::PartAt;
-use exec_synopsis::Admitted;
+use exec_ranges::RowAt;
 use std::sync::ledger::Ledger;
 
 /// Returns the place of FROM of a stream, where the query names it.
@@ -60,7 +60,7 @@ pub fn apply_along<L: Ledger>(
     ensures writes { steps.new.writes ≤ steps.old.writes + length led.now.parts.now }
 {
     let part_index = led.part_index;
-    let (q, parts) = (led.q, led.parts);
+    let (q, parts, e) = (led.q, led.parts, led.extent);
     let mut i = first;
     let mut same = true;
     let mut told: Option<CellAt> = None;
@@ -79,20 +79,19 @@ pub fn apply_along<L: Ledger>(
                 let plan = parts.get(met.i);
                 if met.placement.is_inside() {
                     let owns = part_index.owns(led.each, q, parts, plan, led.pos, met.i);
-                    let part = PartAt {
+                    let at = RowAt {
                         q,
-                        plan,
+                        part: plan,
                         prepared: led.prepared.part(q, parts, met.i),
-                        extent: led.extent,
-                    };
-                    let at = Admitted {
+                        arriving: led.pos,
                         row: led.row,
-                        pos: led.pos,
-                        placement: met.placement,
                     };
-                    let takes = Takes { owns, own: met.own };
-                    let changed = apply_to_part(pool, &part, &at, takes, scratch, table, steps);
-                    same &= !changed;
+                    let takes = Takes {
+                        placement: met.placement,
+                        owns,
+                        own: met.own,
+                    };
+                    same &= !apply_to_part(pool, e, &at, takes, scratch, table, steps);
                 }
                 told = led.cell_after(plan, met.placement, met.i);
                 i = part_index.after(q, parts, led.pos, met.i);

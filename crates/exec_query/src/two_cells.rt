@@ -91,13 +91,12 @@ pub fn meet_cells<L: Ledger>(
         kind: Kind::Count,
     };
     let at = Admitted {
-        row,
         pos: direct.pos,
         placement,
     };
     // The own cell is read last, and put at once: where it stands is still at hand.
     let there = pool.read(extent, direct.other + offset, steps);
-    let own = own_cell(pool, extent, q, plan, &at, steps);
-    put_own(pool, extent, plan, &at, &own, steps);
+    let own = own_cell(pool, extent, q, plan, row, at, steps);
+    put_own(pool, extent, plan, row, direct.pos, &own, steps);
     there
 }

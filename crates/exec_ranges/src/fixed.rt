@@ -1,6 +1,7 @@
 //! Levels at which known columns fix every dim: one pass tells the only combination of values and the number of its cell.
 //! Where the columns are the arriving row's own, they are listed with the part; else they are searched for among the links.
 ghost use Rattle.std.specs.Prelude.{◌≡◌, ◌≢◌, ◌+◌, ◌<◌, ◌^◌, ◌≤ℤ◌, length, map, IfSome};
+ghost use Rattle.sem_query.specs.Parts.{pairs};
 ghost use Rattle.sem_query.specs.Boxes.{box_size, place_of};
 ghost use Rattle.sem_query.specs.Plan.{stream_at};
 ghost use Rattle.exec_ranges.specs.Lined.{IsFixed, AreFixed};
@@ -42,9 +43,9 @@ fn pinned(dim: Dim, value: i64) -> Option<Dim>
 pub fn fixed_dims(at: &RowAt<'_>, known: &[Binding], dims: &mut Dims) -> Option<u32>
     requires here { length known.now < length at.now.part.now.streams.items }
     requires other { length known.now ≢ at.now.arriving }
-    requires prepared { IsPrepared at.now.pairs.now at.now.part.now at.now.prepared.now }
+    requires prepared { IsPrepared (pairs at.now.q.now) at.now.part.now at.now.prepared.now }
     requires laid { IsLaidOut (stream_at at.now.part.now (length known.now)) (2 ^ 32) }
-    ensures { IfSome result (λ first. AreFixed at.now.part.now (length known.now) (narrowed_dims at.now.pairs.now at.now.part.now at.now.arriving at.now.row.now known.now) dims.new.items first) }
+    ensures { IfSome result (λ first. AreFixed at.now.part.now (length known.now) (narrowed_dims (pairs at.now.q.now) at.now.part.now at.now.arriving at.now.row.now.items known.now) dims.new.items first) }
 {
     if !may_look_up(at.prepared.access(at.arriving, known.len())) {
         return None;
@@ -70,9 +71,9 @@ pub fn fixed_dims(at: &RowAt<'_>, known: &[Binding], dims: &mut Dims) -> Option<
 /// one value, and tells the number of the cell for these values.
 pub fn pinned_dims(at: &RowAt<'_>, known: &[Binding], dims: &mut Dims) -> Option<u32>
     requires other { length known.now ≢ at.now.arriving }
-    requires prepared { IsPrepared at.now.pairs.now at.now.part.now at.now.prepared.now }
+    requires prepared { IsPrepared (pairs at.now.q.now) at.now.part.now at.now.prepared.now }
     requires laid { IsLaidOut (stream_at at.now.part.now (length known.now)) (2 ^ 32) }
-    ensures { IfSome result (λ first. AreFixed at.now.part.now (length known.now) (narrowed_dims at.now.pairs.now at.now.part.now at.now.arriving at.now.row.now known.now) dims.new.items first) }
+    ensures { IfSome result (λ first. AreFixed at.now.part.now (length known.now) (narrowed_dims (pairs at.now.q.now) at.now.part.now at.now.arriving at.now.row.now.items known.now) dims.new.items first) }
 {
     let Some(listed) = at.prepared.pinned(at.arriving, known.len()) else {
         return None;
@@ -80,7 +81,7 @@ pub fn pinned_dims(at: &RowAt<'_>, known: &[Binding], dims: &mut Dims) -> Option
     let mut place: u32 = 0;
     dims.clear();
     'key_columns: for key_column in listed.key_columns.as_slice() {
-        let value = value_at(at.row, key_column.column.column);
+        let value = value_at(at.row.as_slice(), key_column.column.column);
         let Some(fixed) = pinned(key_column.dim, value) else {
             return None;
         };
@@ -95,9 +96,9 @@ pub fn pinned_dims(at: &RowAt<'_>, known: &[Binding], dims: &mut Dims) -> Option
 pub fn single_dims(at: &RowAt<'_>, known: &[Binding], dims: &mut Dims) -> Option<u32>
     requires here { length known.now < length at.now.part.now.streams.items }
     requires other { length known.now ≢ at.now.arriving }
-    requires prepared { IsPrepared at.now.pairs.now at.now.part.now at.now.prepared.now }
+    requires prepared { IsPrepared (pairs at.now.q.now) at.now.part.now at.now.prepared.now }
     requires laid { IsLaidOut (stream_at at.now.part.now (length known.now)) (2 ^ 32) }
-    ensures { IfSome result (λ first. AreFixed at.now.part.now (length known.now) (narrowed_dims at.now.pairs.now at.now.part.now at.now.arriving at.now.row.now known.now) dims.new.items first) }
+    ensures { IfSome result (λ first. AreFixed at.now.part.now (length known.now) (narrowed_dims (pairs at.now.q.now) at.now.part.now at.now.arriving at.now.row.now.items known.now) dims.new.items first) }
 {
     if !is_scan(at.prepared.access(at.arriving, known.len())) {
         return None;

@@ -21,5 +21,5 @@ pub use fixed::{fixed_dims, pinned_dims, single_dims};
 pub use lines::{is_empty, line_of, offset_of};
 pub use lists::{Counts, Dims, Values};
 pub use narrow::{above, below, narrowed_dims};
-pub use part::{PartAt, RowAt};
+pub use part::RowAt;
 pub use values::{rows_in, value_in};

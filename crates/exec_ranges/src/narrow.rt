@@ -1,5 +1,6 @@
 //! The values that the links leave for the next stream.
 ghost use Rattle.std.specs.Prelude.{◌≡◌, ◌<◌, length};
+ghost use Rattle.sem_query.specs.Parts.{pairs};
 ghost use Rattle.sem_query.specs.Probing.{is_known};
 ghost use Rattle.exec_synopsis.specs.Preparing.{IsPrepared};
 ghost use Rattle.exec_ranges.specs.Values.{value_in};
@@ -80,8 +81,8 @@ pub fn above(dim: Dim, value: i64) -> Dim
 
 // The dim with the values that an inequality with a known column leaves.
 fn clip_by(at: &RowAt<'_>, known: &[Binding], link: Link, dim: Dim) -> Dim
-    requires { IsPrepared at.now.pairs.now at.now.part.now at.now.prepared.now }
-    ensures { result ≡ clip_by at.now.arriving (length known.now) link (value_in at.now.pairs.now at.now.part.now at.now.arriving at.now.row.now known.now) dim }
+    requires { IsPrepared (pairs at.now.q.now) at.now.part.now at.now.prepared.now }
+    ensures { result ≡ clip_by at.now.arriving (length known.now) link (value_in (pairs at.now.q.now) at.now.part.now at.now.arriving at.now.row.now.items known.now) dim }
 {
     if is_same(link.left, dim.attr) && is_known(at.arriving, known.len(), link.right) {
         return below(dim, value_in(at, known, link.right));
@@ -94,8 +95,8 @@ fn clip_by(at: &RowAt<'_>, known: &[Binding], link: Link, dim: Dim) -> Dim
 
 // The dim with the values that the inequalities with known columns leave.
 fn clip(at: &RowAt<'_>, known: &[Binding], dim: Dim) -> Dim
-    requires { IsPrepared at.now.pairs.now at.now.part.now at.now.prepared.now }
-    ensures { result ≡ clip at.now.arriving (length known.now) at.now.part.now.less.items (value_in at.now.pairs.now at.now.part.now at.now.arriving at.now.row.now known.now) dim }
+    requires { IsPrepared (pairs at.now.q.now) at.now.part.now at.now.prepared.now }
+    ensures { result ≡ clip at.now.arriving (length known.now) at.now.part.now.less.items (value_in (pairs at.now.q.now) at.now.part.now at.now.arriving at.now.row.now.items known.now) dim }
 {
     let mut left = dim;
     'links: for link in at.part.less.as_slice() {
@@ -107,8 +108,8 @@ fn clip(at: &RowAt<'_>, known: &[Binding], dim: Dim) -> Dim
 // The dim with the values that the links leave.
 #[tactic(auto, unfolding(exec_synopsis::specs::Narrowing::narrow))]
 fn narrow(at: &RowAt<'_>, known: &[Binding], dim: Dim) -> Dim
-    requires { IsPrepared at.now.pairs.now at.now.part.now at.now.prepared.now }
-    ensures { result ≡ narrow at.now.arriving (length known.now) at.now.part.now.equal.items at.now.part.now.less.items (value_in at.now.pairs.now at.now.part.now at.now.arriving at.now.row.now known.now) dim }
+    requires { IsPrepared (pairs at.now.q.now) at.now.part.now at.now.prepared.now }
+    ensures { result ≡ narrow at.now.arriving (length known.now) at.now.part.now.equal.items at.now.part.now.less.items (value_in (pairs at.now.q.now) at.now.part.now at.now.arriving at.now.row.now.items known.now) dim }
 {
     match binding_column(at.arriving, known.len(), dim.attr, at.part.equal.as_slice()) {
         Some(a) => narrowed_to(dim, value_in(at, known, a)),
@@ -120,8 +121,8 @@ fn narrow(at: &RowAt<'_>, known: &[Binding], dim: Dim) -> Dim
 #[tactic(auto, unfolding(crate::specs::Narrowed::narrowed_dims, crate::specs::Narrowed::dims_in))]
 pub fn narrowed_dims(at: &RowAt<'_>, known: &[Binding], dims: &mut Dims)
     requires here { length known.now < length at.now.part.now.streams.items }
-    requires prepared { IsPrepared at.now.pairs.now at.now.part.now at.now.prepared.now }
-    ensures { dims.new.items ≡ narrowed_dims at.now.pairs.now at.now.part.now at.now.arriving at.now.row.now known.now }
+    requires prepared { IsPrepared (pairs at.now.q.now) at.now.part.now at.now.prepared.now }
+    ensures { dims.new.items ≡ narrowed_dims (pairs at.now.q.now) at.now.part.now at.now.arriving at.now.row.now.items known.now }
 {
     dims.clear();
     if known.len() != at.arriving as usize {

@@ -1,5 +1,6 @@
 //! What the chosen cells say of the columns.
 ghost use Rattle.std.specs.Prelude.{◌≡◌};
+ghost use Rattle.sem_query.specs.Parts.{pairs};
 ghost use Rattle.exec_ranges.specs.Values.{value_or, extreme_of, rows_in, chosen_value, value_in};
 ghost use Rattle.exec_synopsis.specs.Preparing.{IsPrepared};
 ghost use Rattle.exec_ranges.specs.declared.binding.Binding.{Binding};
@@ -45,15 +46,15 @@ fn value_or(values: &[i64], otherwise: i64, place: Option<u8>) -> i64
 /// Returns the value of a column, where cells were chosen at the first places of FROM.
 #[tactic(auto, unfolding(crate::specs::Values::value_in))]
 pub fn value_in(at: &RowAt<'_>, known: &[Binding], a: Attr) -> i64
-    requires { IsPrepared at.now.pairs.now at.now.part.now at.now.prepared.now }
-    ensures { result ≡ value_in at.now.pairs.now at.now.part.now at.now.arriving at.now.row.now known.now a }
+    requires { IsPrepared (pairs at.now.q.now) at.now.part.now at.now.prepared.now }
+    ensures { result ≡ value_in (pairs at.now.q.now) at.now.part.now at.now.arriving at.now.row.now.items known.now a }
 {
     if a.stream == at.arriving {
-        return value_at(at.row, a.column);
+        return value_at(at.row.as_slice(), a.column);
     }
     let Some(chosen) = known.get(usize::from(a.stream)) else {
         return 0;
     };
-    let place = class_of(at.pairs, at.part, at.prepared, a);
+    let place = class_of(at.q.pairs().as_slice(), at.part, at.prepared, a);
     value_or(chosen.values.as_slice(), extreme_of(chosen.cell), place)
 }

@@ -8,14 +8,12 @@ ghost use Rattle.exec_synopsis.specs.Premises.{IsLaidOut};
 ghost use Rattle.exec_synopsis.specs.Preparing.{IsPrepared};
 ghost use Rattle.exec_saturation.specs.Saturated.{HasColumns};
 
-use exec_ranges::PartAt;
-use exec_synopsis::class_of;
-use sem_query::{Attr, Cell, Row, dims_at, values_at};
+use exec_synopsis::{Prepared, class_of};
+use sem_query::{Attr, Cell, PartPlan, Query, Row, dims_at, values_at};
 
-/// A cell of a part: its place of FROM, its place in the box there, and what it holds.
+/// A cell of a box: its place there, and what it holds.
 #[derive(Clone, Copy, Debug, PartialEq, Eq, Drop)]
 pub struct SeenCell {
-    pub pos: u8,
     pub i: u32,
     pub held: Cell,
 }
@@ -41,29 +39,37 @@ fn value_or(values: &[i64], otherwise: i64, place: Option<u8>) -> i64
 }
 
 // The value of a column in a cell whose dims have these values: that of its class, or the extreme that the cell keeps.
-fn column_value(part: &PartAt<'_>, pos: u8, column: u8, values: &[i64], held: Cell) -> i64
-    requires { IsPrepared (pairs part.now.q.now) part.now.plan.now part.now.prepared.now }
-    ensures { result ≡ row_of_values part.now.q.now part.now.plan.now pos values.now (extreme_of held) column }
+fn column_value(
+    q: &Query,
+    part: &PartPlan,
+    prepared: &Prepared,
+    pos: u8,
+    column: u8,
+    values: &[i64],
+    held: Cell,
+) -> i64
+    requires { IsPrepared (pairs q.now) part.now prepared.now }
+    ensures { result ≡ row_of_values q.now part.now pos values.now (extreme_of held) column }
 {
     let attr = Attr {
         stream: pos,
         column,
     };
-    let class = class_of(part.q.pairs().as_slice(), part.plan, part.prepared, attr);
+    let class = class_of(q.pairs().as_slice(), part, prepared, attr);
     value_or(values, extreme_of(held), class)
 }
 
-/// Returns the row that a cell is read as. It has all eight columns that a row may have.
-pub fn row_of_cell(part: &PartAt<'_>, cell: SeenCell) -> Row
-    requires laid { IsLaidOut (stream_at part.now.plan.now cell.pos) (2 ^ 32) }
-    requires inside { cell.i < (stream_at part.now.plan.now cell.pos).size }
-    requires prepared { IsPrepared (pairs part.now.q.now) part.now.plan.now part.now.prepared.now }
-    ensures columns { HasColumns (row_of_cell part.now.q.now part.now.plan.now cell.pos cell.i (extreme_of cell.held)) result.items }
+/// Returns the row that a cell of the box at a place of FROM is read as. It has all eight columns that a row may have.
+pub fn row_of_cell(q: &Query, part: &PartPlan, prepared: &Prepared, pos: u8, cell: SeenCell) -> Row
+    requires laid { IsLaidOut (stream_at part.now pos) (2 ^ 32) }
+    requires inside { cell.i < (stream_at part.now pos).size }
+    requires prepared { IsPrepared (pairs q.now) part.now prepared.now }
+    ensures columns { HasColumns (row_of_cell q.now part.now pos cell.i (extreme_of cell.held)) result.items }
 {
-    let values = values_at(dims_at(part.plan, usize::from(cell.pos)), cell.i);
+    let values = values_at(dims_at(part, usize::from(pos)), cell.i);
     let mut row = Row::new();
     'columns: for column in 0..8u8 {
-        row.push(column_value(part, cell.pos, column, values.as_slice(), cell.held));
+        row.push(column_value(q, part, prepared, pos, column, values.as_slice(), cell.held));
     }
     row
 }

@@ -10,27 +10,17 @@ ghost use Rattle.exec_saturation.specs.declared.saturation.Saturation.TheVariant
 ghost use Rattle.exec_saturation.specs.Known.{AreSaturated};
 ghost use Rattle.exec_saturation.specs.Looking.{CanLook, StandsAhead, HasMoved, HasStepped, left_after, look_cost, work_of};
 
-use crate::cell_row::SeenCell;
+use crate::cell_row::{SeenCell, row_of_cell};
+use crate::planned::PlannedQuery;
 use crate::saturated::is_saturated;
 use crate::saturation::{Cursor, Saturation};
 use exec_answer_table::Answers;
-use exec_join::ProbeScratch;
-use exec_part_index::PreparedPlan;
+use exec_join::Scratch;
 use exec_pool::{Extent, Pool, Steps};
-use exec_ranges::PartAt;
+use exec_ranges::RowAt;
 use exec_synopsis::stream_at;
-use sem_query::{Cell, PartPlan, PartPlans, Plan, Query, StreamPlan, Tuple};
+use sem_query::{Cell, PartPlan, PartPlans, Plan, StreamPlan};
 use std::sync::ledger::Ledger;
-
-/// A query whose cells are looked at: its plan, what its parts are asked of every row, the extent of the cells, and the answer table.
-#[derive(Clone, Copy)]
-pub struct LookedAt<'a> {
-    pub q: &'a Query,
-    pub plan: &'a Plan,
-    pub prepared: &'a PreparedPlan,
-    pub extent: &'a Extent,
-    pub table: &'a Answers,
-}
 
 /// Where a cursor came to, and how many reads are left.
 #[derive(Clone, Copy, Debug, PartialEq, Eq, Drop)]
@@ -103,14 +93,14 @@ fn clear_ahead<L: Ledger>(
 // most one read.
 fn past_clear<L: Ledger>(
     pool: &Pool,
-    all: &LookedAt<'_>,
+    planned: &PlannedQuery,
     parts: &PartPlans,
     at: Cursor,
     steps: &mut Steps<L>,
 ) -> Ahead
-    requires look { CanLook all.now.q.now parts.now all.now.prepared.now pool.now all.now.extent.now all.now.table.now.width (work_of all.now.plan.now) }
+    requires look { CanLook planned.now.query parts.now planned.now.prepared pool.now planned.now.extent (length planned.now.query.select) (work_of planned.now.plan) }
     requires inside { at.part < length parts.now }
-    ensures ahead { StandsAhead all.now.q.now parts.now (read_from (cells_of pool.now all.now.extent.now)) at result }
+    ensures ahead { StandsAhead planned.now.query parts.now (read_from (cells_of pool.now planned.now.extent)) at result }
     ensures reads { steps.new.reads ≤ steps.old.reads + 1 }
     ensures writes { steps.new.writes ≡ steps.old.writes }
 {
@@ -132,7 +122,7 @@ fn past_clear<L: Ledger>(
             cell: 0,
         });
     }
-    let clear = clear_ahead(pool, all.extent, stream, at.cell, steps);
+    let clear = clear_ahead(pool, &planned.extent, stream, at.cell, steps);
     if clear.count == 0 {
         return Ahead::At(clear.held);
     }
@@ -158,45 +148,45 @@ fn cost_in(part: &PartPlan, plan: &Plan) -> u64
 // A step of a cursor: over cells that are empty, or over one that is looked at.
 fn go_on<L: Ledger>(
     pool: &Pool,
-    all: &LookedAt<'_>,
+    planned: &PlannedQuery,
     parts: &PartPlans,
     from: Came,
-    room: &mut ProbeScratch,
-    tuple: &mut Tuple,
+    table: &Answers,
+    scratch: &mut Scratch,
     steps: &mut Steps<L>,
 ) -> CursorStep
-    requires look { CanLook all.now.q.now parts.now all.now.prepared.now pool.now all.now.extent.now all.now.table.now.width (work_of all.now.plan.now) }
+    requires look { CanLook planned.now.query parts.now planned.now.prepared pool.now planned.now.extent table.now.width (work_of planned.now.plan) }
     requires inside { from.at.part < length parts.now }
-    ensures stepped { HasStepped all.now.q.now parts.now (read_from (cells_of pool.now all.now.extent.now)) (tuples_of all.now.table.now.entries) (work_of all.now.plan.now) from result }
+    ensures stepped { HasStepped planned.now.query parts.now (read_from (cells_of pool.now planned.now.extent)) (tuples_of table.now.entries) (work_of planned.now.plan) from result }
     ensures reads { steps.new.reads + left_after result ≤ steps.old.reads + from.left }
     ensures writes { steps.new.writes ≡ steps.old.writes }
 {
     if from.left == 0 {
         return CursorStep::Stays;
     }
-    match past_clear(pool, all, parts, from.at, steps) {
+    match past_clear(pool, planned, parts, from.at, steps) {
         Ahead::On(at) => CursorStep::On(Came {
             at,
             left: from.left - 1,
         }),
         Ahead::At(held) => {
             let plan = parts.get(from.at.part);
-            let cost = cost_in(plan, all.plan);
+            let cost = cost_in(plan, &planned.plan);
             if from.left < cost {
                 return CursorStep::Stays;
             }
-            let part = PartAt {
-                q: all.q,
-                plan,
-                prepared: all.prepared.part(all.q, parts, from.at.part),
-                extent: all.extent,
+            let prepared = planned.prepared.part(&planned.query, parts, from.at.part);
+            let (pos, i) = (from.at.place, from.at.cell);
+            let cell = SeenCell { i, held };
+            let row = row_of_cell(&planned.query, plan, prepared, pos, cell);
+            let met = RowAt {
+                q: &planned.query,
+                part: plan,
+                prepared,
+                arriving: pos,
+                row: &row,
             };
-            let cell = SeenCell {
-                pos: from.at.place,
-                i: from.at.cell,
-                held,
-            };
-            if !is_saturated(pool, &part, cell, room, tuple, all.table, steps) {
+            if !is_saturated(pool, &planned.extent, &met, cell, table, scratch, steps) {
                 return CursorStep::Open;
             }
             let at = Cursor {
@@ -217,24 +207,24 @@ fn go_on<L: Ledger>(
 /// one that is not, nothing is known any more. It stays where the next cell may cost more reads than are left. No cell is written.
 pub fn look_on<L: Ledger>(
     pool: &Pool,
-    all: &LookedAt<'_>,
+    planned: &PlannedQuery,
     parts: &PartPlans,
     from: Came,
-    room: &mut ProbeScratch,
-    tuple: &mut Tuple,
+    table: &Answers,
+    scratch: &mut Scratch,
     steps: &mut Steps<L>,
 ) -> Saturation
-    requires look { CanLook all.now.q.now parts.now all.now.prepared.now pool.now all.now.extent.now all.now.table.now.width (work_of all.now.plan.now) }
-    requires known { AreSaturated (saturation.Before from.at) all.now.q.now parts.now (read_from (cells_of pool.now all.now.extent.now)) (tuples_of all.now.table.now.entries) }
-    ensures known { AreSaturated result all.now.q.now parts.now (read_from (cells_of pool.now all.now.extent.now)) (tuples_of all.now.table.now.entries) }
-    ensures moves { HasMoved from.at from.left (work_of all.now.plan.now) result }
-    ensures open { result ≡ saturation.None → IsClosed all.now.q.now parts.now (read_from (cells_of pool.now all.now.extent.now)) (tuples_of all.now.table.now.entries) → ⊥ }
+    requires look { CanLook planned.now.query parts.now planned.now.prepared pool.now planned.now.extent table.now.width (work_of planned.now.plan) }
+    requires known { AreSaturated (saturation.Before from.at) planned.now.query parts.now (read_from (cells_of pool.now planned.now.extent)) (tuples_of table.now.entries) }
+    ensures known { AreSaturated result planned.now.query parts.now (read_from (cells_of pool.now planned.now.extent)) (tuples_of table.now.entries) }
+    ensures moves { HasMoved from.at from.left (work_of planned.now.plan) result }
+    ensures open { result ≡ saturation.None → IsClosed planned.now.query parts.now (read_from (cells_of pool.now planned.now.extent)) (tuples_of table.now.entries) → ⊥ }
     ensures reads { steps.new.reads ≤ steps.old.reads + from.left }
     ensures writes { steps.new.writes ≡ steps.old.writes }
 {
     let mut came = from;
     'cells: while came.at.part < parts.len() {
-        match go_on(pool, all, parts, came, room, tuple, steps) {
+        match go_on(pool, planned, parts, came, table, scratch, steps) {
             CursorStep::On(next) => came = next,
             CursorStep::Stays => return Saturation::Before(came.at),
             CursorStep::Open => return Saturation::None,

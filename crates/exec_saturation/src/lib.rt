@@ -11,11 +11,12 @@
 mod cell_row;
 mod cursor;
 mod looking;
+mod planned;
 mod saturated;
 mod saturation;
 
 pub use cell_row::SeenCell;
-pub use cursor::LookedAt;
 pub use looking::look_beside_row;
+pub use planned::PlannedQuery;
 pub use saturated::is_saturated;
 pub use saturation::{Cursor, Saturation};

@@ -10,11 +10,13 @@ ghost use Rattle.exec_saturation.specs.declared.saturation.Saturation.TheVariant
 ghost use Rattle.exec_saturation.specs.Known.{AreSaturated};
 ghost use Rattle.exec_saturation.specs.Looking.{CanLookAt, HasLookedBeside, spare_reads};
 
-use crate::cursor::{Came, LookedAt, look_on};
+use crate::cursor::{Came, look_on};
+use crate::planned::PlannedQuery;
 use crate::saturation::{Cursor, Saturation};
-use exec_join::ProbeScratch;
+use exec_answer_table::Answers;
+use exec_join::Scratch;
 use exec_pool::{Pool, Steps};
-use sem_query::{Plan, Tuple};
+use sem_query::Plan;
 use std::sync::ledger::Ledger;
 
 // Whether a stream is one of FROM.
@@ -29,32 +31,32 @@ fn is_named(from: &[u8], stream: u8) -> bool
 /// that is not saturated; beside a row of another stream it stays. Of any other query nothing is looked at.
 pub fn look_beside_row<L: Ledger>(
     pool: &Pool,
-    all: &LookedAt<'_>,
+    planned: &PlannedQuery,
     stream: u8,
     cursor: Cursor,
-    room: &mut ProbeScratch,
-    tuple: &mut Tuple,
+    table: &Answers,
+    scratch: &mut Scratch,
     steps: &mut Steps<L>,
 ) -> Saturation
-    requires look { CanLookAt all.now.q.now all.now.plan.now all.now.prepared.now pool.now all.now.extent.now all.now.table.now.width }
-    requires known { all.now.q.now.distinct ≡ true → AreSaturated (saturation.Before cursor) all.now.q.now (parts_of all.now.plan.now) (read_from (cells_of pool.now all.now.extent.now)) (tuples_of all.now.table.now.entries) }
-    ensures known { all.now.q.now.distinct ≡ true → AreSaturated result all.now.q.now (parts_of all.now.plan.now) (read_from (cells_of pool.now all.now.extent.now)) (tuples_of all.now.table.now.entries) }
-    ensures moves { all.now.q.now.distinct ≡ true → length all.now.q.now.from ≡ 2 → HasLookedBeside all.now.q.now all.now.plan.now (read_from (cells_of pool.now all.now.extent.now)) (tuples_of all.now.table.now.entries) (list_any (λ s. stream == s) all.now.q.now.from) cursor result }
-    ensures reads { steps.new.reads ≤ steps.old.reads + spare_reads all.now.q.now all.now.plan.now }
+    requires look { CanLookAt planned.now.query planned.now.plan planned.now.prepared pool.now planned.now.extent table.now.width }
+    requires known { planned.now.query.distinct ≡ true → AreSaturated (saturation.Before cursor) planned.now.query (parts_of planned.now.plan) (read_from (cells_of pool.now planned.now.extent)) (tuples_of table.now.entries) }
+    ensures known { planned.now.query.distinct ≡ true → AreSaturated result planned.now.query (parts_of planned.now.plan) (read_from (cells_of pool.now planned.now.extent)) (tuples_of table.now.entries) }
+    ensures moves { planned.now.query.distinct ≡ true → length planned.now.query.from ≡ 2 → HasLookedBeside planned.now.query planned.now.plan (read_from (cells_of pool.now planned.now.extent)) (tuples_of table.now.entries) (list_any (λ s. stream == s) planned.now.query.from) cursor result }
+    ensures reads { steps.new.reads ≤ steps.old.reads + spare_reads planned.now.query planned.now.plan }
     ensures writes { steps.new.writes ≡ steps.old.writes }
-    ensures alone { all.now.plan.now ≡ plans.Filter → steps.new ≡ steps.old }
-    ensures outside { list_any (λ s. stream == s) all.now.q.now.from ≡ false → steps.new ≡ steps.old }
+    ensures alone { planned.now.plan ≡ plans.Filter → steps.new ≡ steps.old }
+    ensures outside { list_any (λ s. stream == s) planned.now.query.from ≡ false → steps.new ≡ steps.old }
 {
-    if !all.q.distinct() {
+    if !planned.query.distinct() {
         return Saturation::None;
     }
-    if all.q.from().len() != 2 {
+    if planned.query.from().len() != 2 {
         return Saturation::None;
     }
-    if !is_named(all.q.from(), stream) {
+    if !is_named(planned.query.from(), stream) {
         return Saturation::Before(cursor);
     }
-    match all.plan {
+    match &planned.plan {
         Plan::Filter => Saturation::None,
         Plan::Parts { parts, numbers } => {
             let work = u64::from(numbers.work);
@@ -62,7 +64,7 @@ pub fn look_beside_row<L: Ledger>(
                 at: cursor,
                 left: 2 * work - work / 2,
             };
-            look_on(pool, all, parts, from, room, tuple, steps)
+            look_on(pool, planned, parts, from, table, scratch, steps)
         }
     }
 }

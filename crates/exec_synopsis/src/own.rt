@@ -15,10 +15,9 @@ use exec_pool::{Extent, Pool, Steps};
 use sem_query::{Cell, Kind, PartPlan, Query, Row};
 use std::sync::ledger::Ledger;
 
-/// A row that a part admits, its place of FROM, and where it stands in the part.
-#[derive(Clone, Copy)]
-pub struct Admitted<'a> {
-    pub row: &'a Row,
+/// Where a row stands that a part admits: its place of FROM, and where it stands in the part.
+#[derive(Clone, Copy, Debug, PartialEq, Eq)]
+pub struct Admitted {
     pub pos: u8,
     pub placement: Placement,
 }
@@ -55,16 +54,17 @@ pub fn own_cell<L: Ledger>(
     e: &Extent,
     q: &Query,
     part: &PartPlan,
-    at: &Admitted<'_>,
+    row: &Row,
+    at: Admitted,
     steps: &mut Steps<L>,
 ) -> OwnCell
-    requires here { at.now.pos < length q.now.from }
+    requires here { at.pos < length q.now.from }
     requires several { 1 < length q.now.from }
     requires held { IsHeld q.now part.now pool.now e.now }
-    requires admitted { IsTrue (admits q.now part.now at.now.pos (by_column at.now.row.now.items)) }
-    requires placement { IsCell part.now at.now.pos at.now.row.now.items at.now.placement }
-    requires room { HasRoom (slice_index_or (cells_of pool.now e.now) (row_cell part.now at.now.pos at.now.row.now.items) cells.Empty) }
-    ensures own { IsOwnCell part.now at.now.pos at.now.row.now.items (cells_of pool.now e.now) result }
+    requires admitted { IsTrue (admits q.now part.now at.pos (by_column row.now.items)) }
+    requires placement { IsCell part.now at.pos row.now.items at.placement }
+    requires room { HasRoom (slice_index_or (cells_of pool.now e.now) (row_cell part.now at.pos row.now.items) cells.Empty) }
+    ensures own { IsOwnCell part.now at.pos row.now.items (cells_of pool.now e.now) result }
     ensures inside { result.number < 64 * e.now.pages }
     ensures room { HasRoom result.held }
     ensures reads { steps.new.reads ≡ steps.old.reads + 1 }
@@ -72,7 +72,7 @@ pub fn own_cell<L: Ledger>(
 {
     // Named for the proof alone: the contract speaks of it.
     let _query = q;
-    let values = at.row.as_slice();
+    let values = row.as_slice();
     let (number, kind) = cell_of(part, at.pos, values, at.placement, e);
     let held = pool.read(e, number, steps);
     OwnCell { number, kind, held }
@@ -84,22 +84,24 @@ pub fn put_own<L: Ledger>(
     pool: &mut Pool,
     e: &Extent,
     part: &PartPlan,
-    at: &Admitted<'_>,
+    row: &Row,
+    pos: u8,
     own: &OwnCell,
     steps: &mut Steps<L>,
 )
     requires live { IsLive pool.old e.now }
     requires inside { own.now.number < 64 * e.now.pages }
-    requires own { IsOwnCell part.now at.now.pos at.now.row.now.items (cells_of pool.old e.now) own.now }
+    requires own { IsOwnCell part.now pos row.now.items (cells_of pool.old e.now) own.now }
     requires room { HasRoom own.now.held }
-    ensures cell { pool.new ≡ with_cells pool.old e.now (cells_with_row part.now at.now.pos at.now.row.now.items (cells_of pool.old e.now)) }
+    ensures cell { pool.new ≡ with_cells pool.old e.now (cells_with_row part.now pos row.now.items (cells_of pool.old e.now)) }
     ensures reads { steps.new.reads ≡ steps.old.reads }
     ensures writes { steps.new.writes ≤ steps.old.writes + 1 }
 {
-    // Named for the proof alone: the contract speaks of it.
+    // Named for the proof alone: the contract speaks of them.
     let _part = part;
-    if own.stays(at.row) {
+    let _pos = pos;
+    if own.stays(row) {
         return;
     }
-    pool.write(e, own.number, own.with_row(at.row), steps);
+    pool.write(e, own.number, own.with_row(row), steps);
 }

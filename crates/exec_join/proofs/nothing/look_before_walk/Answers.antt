@@ -1,4 +1,4 @@
-use Rattle.std.proofs.Common.{◌≡◌, ℕ, ◌+◌, ◌*◌, ◌<◌, ◌≤◌, ◌⊎◌, inl, inr, List, [], length, map, sym, ap, ◌∙◌, subst, arith, ℤ}
+use Rattle.std.proofs.Common.{refl, ◌≡◌, ℕ, ◌+◌, ◌*◌, ◌<◌, ◌≤◌, ◌⊎◌, inl, inr, List, [], length, map, sym, ap, ◌∙◌, subst, arith, ℤ}
 use Rattle.sem_query.specs.declared.cell.Cell.TheVariants.{Empty}
 use Rattle.sem_query.specs.declared.part.Pair.{Pair}
 use Rattle.sem_query.specs.declared.plan.Dim.{Dim}
@@ -97,76 +97,72 @@ same-fixed ps sp part pos row seen fixed first e f h = subst (λ (ds : List Dim)
 
 pub returns-then-is_cut_off-clause-found : goal.returns-then-is_cut_off-clause-found
 returns-then-is_cut_off-clause-found g c =
-    seen-last c.args.part.now.q.now c.args.part.now.plan.now c.args.pool.now c.args.part.now.extent.now c.args.at.now.pos _ _ c.requires.here c.requires.ready c.as_slice-row.ensures.value (c.is_cut_off.ensures.empty c.if-is_cut_off.true)
+    seen-last c.args.at.now.q.now c.args.at.now.part.now c.args.pool.now c.args.e.now c.args.at.now.arriving _ _ c.requires.here c.requires.ready c.as_slice-row.ensures.value (c.is_cut_off.ensures.empty c.if-is_cut_off.true)
 
 pub read-cell-requires-clause-within : goal.read-cell-requires-clause-within
 read-cell-requires-clause-within g c =
-    let q = c.args.part.now.q.now in
-    let part = c.args.part.now.plan.now in
-    let pos = c.args.at.now.pos in
+    let q = c.args.at.now.q.now in
+    let part = c.args.at.now.part.now in
+    let pos = c.args.at.now.arriving in
     let held = c.requires.ready.held in
     let here : pos < length part.streams.items = omega (arith, c.requires.here, held.walked.plan.count) in
-    let are = same-fixed (pairs q) _ part pos c.args.at.now.row.now.items _ c.first_cell.new.self.dims.items c.in-Some.number (c.as_slice.ensures.value ∙ c.pairs.ensures) c.as_slice-row.ensures.value c.in-Some.ensures.first.1 in
-    first-within q part held.walked pos c.args.at.now.row.now.items here c.in-Some.ensures.first.0 (64 * c.args.part.now.extent.now.pages) held.within c.first_cell.new.self.dims.items c.in-Some.number are
+    let are = same-fixed (pairs q) _ part pos c.args.at.now.row.now.items _ c.first_cell.new.self.dims.items c.in-Some.number refl refl c.in-Some.ensures.first.1 in
+    first-within q part held.walked pos c.args.at.now.row.now.items here c.in-Some.ensures.first.0 (64 * c.args.e.now.pages) held.within c.first_cell.new.self.dims.items c.in-Some.number are
 
 pub returns-then-is_empty-2-clause-found : goal.returns-then-is_empty-2-clause-found
 returns-then-is_empty-2-clause-found g c =
-    let q = c.args.part.now.q.now in
-    let part = c.args.part.now.plan.now in
-    let pos = c.args.at.now.pos in
+    let q = c.args.at.now.q.now in
+    let part = c.args.at.now.part.now in
+    let pos = c.args.at.now.arriving in
     let held = c.requires.ready.held in
     let here : pos < length part.streams.items = omega (arith, c.requires.here, held.walked.plan.count) in
-    let are = same-fixed (pairs q) _ part pos c.args.at.now.row.now.items _ c.first_cell.new.self.dims.items c.in-Some.number (c.as_slice.ensures.value ∙ c.pairs.ensures) c.as_slice-row.ensures.value c.in-Some.ensures.first.1 in
-    first-empty q part held.walked pos c.args.at.now.row.now.items here c.in-Some.ensures.first.0 (64 * c.args.part.now.extent.now.pages) held.within c.first_cell.new.self.dims.items c.in-Some.number are
-    (cells_of c.args.pool.now c.args.part.now.extent.now) (sym (c.read-cell.ensures.cell Empty) ∙ c.is_empty-2.ensures.yes c.if-is_empty-2.true)
+    let are = same-fixed (pairs q) _ part pos c.args.at.now.row.now.items _ c.first_cell.new.self.dims.items c.in-Some.number refl refl c.in-Some.ensures.first.1 in
+    first-empty q part held.walked pos c.args.at.now.row.now.items here c.in-Some.ensures.first.0 (64 * c.args.e.now.pages) held.within c.first_cell.new.self.dims.items c.in-Some.number are
+    (cells_of c.args.pool.now c.args.e.now) (sym (c.read-cell.ensures.cell Empty) ∙ c.is_empty-2.ensures.yes c.if-is_empty-2.true)
 
 pub returns-clause-found : goal.returns-clause-found
 returns-clause-found g c =
-    let q = c.args.part.now.q.now in
-    let part = c.args.part.now.plan.now in
-    let pos = c.args.at.now.pos in
+    let q = c.args.at.now.q.now in
+    let part = c.args.at.now.part.now in
+    let pos = c.args.at.now.arriving in
     let row = c.args.at.now.row.now.items in
     let held = c.requires.ready.held in
     let here : pos < length part.streams.items = omega (arith, c.requires.here, held.walked.plan.count) in
-    let ps = c.as_slice.ensures.value ∙ c.pairs.ensures in
-    let rs = c.as_slice-row.ensures.value in
-    let are = same-fixed (pairs q) _ part pos row _ c.first_cell.new.self.dims.items c.in-Some.number ps rs c.in-Some.ensures.first.1 in
+    let are = same-fixed (pairs q) _ part pos row _ c.first_cell.new.self.dims.items c.in-Some.number refl refl c.in-Some.ensures.first.1 in
     let two : length part.streams.items ≡ 2 = (let v = ap length c.as_slice-streams.ensures.value in let t = c.if-streams-ne2.false in omega (arith, v, t)) in
-    let read = read_from (cells_of c.args.pool.now c.args.part.now.extent.now) in
+    let read = read_from (cells_of c.args.pool.now c.args.e.now) in
     let values = map (λ d. d.lo) c.first_cell.new.self.dims.items in
     let is : found_beside q part read pos (by_column row) ≡ walk (setting (pairs q) q.select part pos row read) 0 (both pos values c.read-cell.result)
-    = alone q part held.walked pos row here c.in-Some.ensures.first.0 (64 * c.args.part.now.extent.now.pages) held.within c.first_cell.new.self.dims.items c.in-Some.number are
-    (cells_of c.args.pool.now c.args.part.now.extent.now) two c.read-cell.result (sym (c.read-cell.ensures.cell Empty)) (c.is_empty-2.ensures.no c.if-is_empty-2.false) in
-    let told = subst (λ (xs : List Pair). Tells c.look_alone.result c.look_alone.new.tuple.items (walk (setting xs q.select part pos row read) 0 (both pos values c.read-cell.result))) ps
-    (subst (λ (xs : List ℤ). Tells c.look_alone.result c.look_alone.new.tuple.items (walk (setting c.as_slice.result.now q.select part pos xs read) 0 (both pos values c.read-cell.result))) rs (c.look_alone.ensures.found read)) in
-    subst (λ (finds : List Found). Tells c.look_alone.result c.look_alone.new.tuple.items finds) (sym is) told
+    = alone q part held.walked pos row here c.in-Some.ensures.first.0 (64 * c.args.e.now.pages) held.within c.first_cell.new.self.dims.items c.in-Some.number are
+    (cells_of c.args.pool.now c.args.e.now) two c.read-cell.result (sym (c.read-cell.ensures.cell Empty)) (c.is_empty-2.ensures.no c.if-is_empty-2.false) in
+    subst (λ (finds : List Found). Tells c.look_alone.result c.look_alone.new.tuple.items finds) (sym is) (c.look_alone.ensures.found read)
 
 pub returns-then-is_empty-2-clause-reads : goal.returns-then-is_empty-2-clause-reads
 returns-then-is_empty-2-clause-reads g c =
-    room-for-more c.args.part.now.q.now c.args.part.now.plan.now c.args.pool.now c.args.part.now.extent.now c.args.at.now.pos _ c.requires.here c.requires.ready
-    (let v = ap length c.as_slice-streams.ensures.value in let f = c.if-streams-gt3.false in omega (arith, v, f)) _ (one-read c.args.part.now.q.now c.args.part.now.plan.now c.args.pool.now c.args.part.now.extent.now c.args.at.now.pos _ c.requires.here c.requires.ready _ (let r = c.read-cell.ensures.reads in omega (arith, r)))
+    room-for-more c.args.at.now.q.now c.args.at.now.part.now c.args.pool.now c.args.e.now c.args.at.now.arriving _ c.requires.here c.requires.ready
+    (let v = ap length c.as_slice-streams.ensures.value in let f = c.if-streams-gt3.false in omega (arith, v, f)) _ (one-read c.args.at.now.q.now c.args.at.now.part.now c.args.pool.now c.args.e.now c.args.at.now.arriving _ c.requires.here c.requires.ready _ (let r = c.read-cell.ensures.reads in omega (arith, r)))
 
 pub returns-then-streams-ne2-clause-reads : goal.returns-then-streams-ne2-clause-reads
 returns-then-streams-ne2-clause-reads g c =
-    room-for-more c.args.part.now.q.now c.args.part.now.plan.now c.args.pool.now c.args.part.now.extent.now c.args.at.now.pos _ c.requires.here c.requires.ready
-    (let v = ap length c.as_slice-streams.ensures.value in let f = c.if-streams-gt3.false in omega (arith, v, f)) _ (one-read c.args.part.now.q.now c.args.part.now.plan.now c.args.pool.now c.args.part.now.extent.now c.args.at.now.pos _ c.requires.here c.requires.ready _ (let r = c.read-cell.ensures.reads in omega (arith, r)))
+    room-for-more c.args.at.now.q.now c.args.at.now.part.now c.args.pool.now c.args.e.now c.args.at.now.arriving _ c.requires.here c.requires.ready
+    (let v = ap length c.as_slice-streams.ensures.value in let f = c.if-streams-gt3.false in omega (arith, v, f)) _ (one-read c.args.at.now.q.now c.args.at.now.part.now c.args.pool.now c.args.e.now c.args.at.now.arriving _ c.requires.here c.requires.ready _ (let r = c.read-cell.ensures.reads in omega (arith, r)))
 
 pub returns-clause-reads : goal.returns-clause-reads
 returns-clause-reads g c =
-    room-for-more c.args.part.now.q.now c.args.part.now.plan.now c.args.pool.now c.args.part.now.extent.now c.args.at.now.pos _ c.requires.here c.requires.ready
-    (let v = ap length c.as_slice-streams.ensures.value in let f = c.if-streams-gt3.false in omega (arith, v, f)) _ (one-read c.args.part.now.q.now c.args.part.now.plan.now c.args.pool.now c.args.part.now.extent.now c.args.at.now.pos _ c.requires.here c.requires.ready _ (let r = c.read-cell.ensures.reads in omega (arith, r)))
+    room-for-more c.args.at.now.q.now c.args.at.now.part.now c.args.pool.now c.args.e.now c.args.at.now.arriving _ c.requires.here c.requires.ready
+    (let v = ap length c.as_slice-streams.ensures.value in let f = c.if-streams-gt3.false in omega (arith, v, f)) _ (one-read c.args.at.now.q.now c.args.at.now.part.now c.args.pool.now c.args.e.now c.args.at.now.arriving _ c.requires.here c.requires.ready _ (let r = c.read-cell.ensures.reads in omega (arith, r)))
 
 pub returns-then-is_empty-2-clause-few : goal.returns-then-is_empty-2-clause-few
 returns-then-is_empty-2-clause-few g c =
-    one-read c.args.part.now.q.now c.args.part.now.plan.now c.args.pool.now c.args.part.now.extent.now c.args.at.now.pos _ c.requires.here c.requires.ready _ (let r = c.read-cell.ensures.reads in omega (arith, r))
+    one-read c.args.at.now.q.now c.args.at.now.part.now c.args.pool.now c.args.e.now c.args.at.now.arriving _ c.requires.here c.requires.ready _ (let r = c.read-cell.ensures.reads in omega (arith, r))
 
 pub returns-then-streams-ne2-clause-few : goal.returns-then-streams-ne2-clause-few
 returns-then-streams-ne2-clause-few g c =
-    one-read c.args.part.now.q.now c.args.part.now.plan.now c.args.pool.now c.args.part.now.extent.now c.args.at.now.pos _ c.requires.here c.requires.ready _ (let r = c.read-cell.ensures.reads in omega (arith, r))
+    one-read c.args.at.now.q.now c.args.at.now.part.now c.args.pool.now c.args.e.now c.args.at.now.arriving _ c.requires.here c.requires.ready _ (let r = c.read-cell.ensures.reads in omega (arith, r))
 
 pub returns-clause-few : goal.returns-clause-few
 returns-clause-few g c =
-    one-read c.args.part.now.q.now c.args.part.now.plan.now c.args.pool.now c.args.part.now.extent.now c.args.at.now.pos _ c.requires.here c.requires.ready _ (let r = c.read-cell.ensures.reads in omega (arith, r))
+    one-read c.args.at.now.q.now c.args.at.now.part.now c.args.pool.now c.args.e.now c.args.at.now.arriving _ c.requires.here c.requires.ready _ (let r = c.read-cell.ensures.reads in omega (arith, r))
 
 pub returns-then-streams-ne2-clause-alone : goal.returns-then-streams-ne2-clause-alone
 returns-then-streams-ne2-clause-alone g c two unknown = absurd (let v = ap length c.as_slice-streams.ensures.value in let t = c.if-streams-ne2.true in omega (arith, v, t, two))
@@ -175,76 +171,76 @@ pub returns-clause-alone : goal.returns-clause-alone
 returns-clause-alone g c two unknown = absurd (c.look_alone.ensures.sure unknown)
 
 pub returns-then-streams-gt3-clause-few : goal.returns-then-streams-gt3-clause-few
-returns-then-streams-gt3-clause-few g c = cut-few c.args.part.now.q.now c.args.part.now.plan.now c.args.pool.now c.args.part.now.extent.now c.args.at.now.pos _ c.requires.here c.requires.ready _ c.is_cut_off.ensures.reads
+returns-then-streams-gt3-clause-few g c = cut-few c.args.at.now.q.now c.args.at.now.part.now c.args.pool.now c.args.e.now c.args.at.now.arriving _ c.requires.here c.requires.ready _ c.is_cut_off.ensures.reads
 
 pub returns-then-is_cut_off-clause-few : goal.returns-then-is_cut_off-clause-few
-returns-then-is_cut_off-clause-few g c = cut-few c.args.part.now.q.now c.args.part.now.plan.now c.args.pool.now c.args.part.now.extent.now c.args.at.now.pos _ c.requires.here c.requires.ready _ c.is_cut_off.ensures.reads
+returns-then-is_cut_off-clause-few g c = cut-few c.args.at.now.q.now c.args.at.now.part.now c.args.pool.now c.args.e.now c.args.at.now.arriving _ c.requires.here c.requires.ready _ c.is_cut_off.ensures.reads
 
 pub returns-then-streams-gt3-clause-reads : goal.returns-then-streams-gt3-clause-reads
 returns-then-streams-gt3-clause-reads g c =
-    look-and-walk-four c.args.part.now.q.now c.args.part.now.plan.now c.args.at.now.pos c.requires.ready.held.walked (let w = c.requires.ready.held.walked in omega (arith, c.requires.here, w.plan.count))
+    look-and-walk-four c.args.at.now.q.now c.args.at.now.part.now c.args.at.now.arriving c.requires.ready.held.walked (let w = c.requires.ready.held.walked in omega (arith, c.requires.here, w.plan.count))
     (let v = ap length c.as_slice-streams.ensures.value in let t = c.if-streams-gt3.true in omega (arith, v, t)) (let v = ap length c.as_slice-streams.ensures.value in let f = c.as_slice-streams.ensures.fits in omega (arith, v, f))
     (c.has_single_cells.ensures c.if-has_single_cells.false) _ _ c.is_cut_off.ensures.reads
 
 pub returns-then-is_cut_off-clause-reads : goal.returns-then-is_cut_off-clause-reads
 returns-then-is_cut_off-clause-reads g c =
-    look-and-walk-four c.args.part.now.q.now c.args.part.now.plan.now c.args.at.now.pos c.requires.ready.held.walked (let w = c.requires.ready.held.walked in omega (arith, c.requires.here, w.plan.count))
+    look-and-walk-four c.args.at.now.q.now c.args.at.now.part.now c.args.at.now.arriving c.requires.ready.held.walked (let w = c.requires.ready.held.walked in omega (arith, c.requires.here, w.plan.count))
     (let v = ap length c.as_slice-streams.ensures.value in let t = c.if-streams-gt3.true in omega (arith, v, t)) (let v = ap length c.as_slice-streams.ensures.value in let f = c.as_slice-streams.ensures.fits in omega (arith, v, f))
     (c.has_single_cells.ensures c.if-has_single_cells.false) _ _ c.is_cut_off.ensures.reads
 
 pub returns-then-has_single_cells-clause-reads : goal.returns-then-has_single_cells-clause-reads
 returns-then-has_single_cells-clause-reads g c =
     let walked = c.requires.ready.held.walked in
-    let w = walk-alone c.args.part.now.q.now c.args.part.now.plan.now c.args.at.now.pos walked (omega (arith, c.requires.here, walked.plan.count))
+    let w = walk-alone c.args.at.now.q.now c.args.at.now.part.now c.args.at.now.arriving walked (omega (arith, c.requires.here, walked.plan.count))
     (let v = ap length c.as_slice-streams.ensures.value in let f = c.as_slice-streams.ensures.fits in omega (arith, v, f)) in
     omega (arith, w)
 
 pub returns-then-is_cut_off-2-clause-found : goal.returns-then-is_cut_off-2-clause-found
 returns-then-is_cut_off-2-clause-found g c =
-    seen-last c.args.part.now.q.now c.args.part.now.plan.now c.args.pool.now c.args.part.now.extent.now c.args.at.now.pos _ _ c.requires.here c.requires.ready c.as_slice-row.ensures.value (c.is_cut_off-then-is_empty.ensures.empty c.if-is_cut_off-2.true)
+    seen-last c.args.at.now.q.now c.args.at.now.part.now c.args.pool.now c.args.e.now c.args.at.now.arriving _ _ c.requires.here c.requires.ready c.as_slice-row.ensures.value (c.is_cut_off-then-is_empty.ensures.empty c.if-is_cut_off-2.true)
 
 pub returns-then-is_empty-clause-few : goal.returns-then-is_empty-clause-few
-returns-then-is_empty-clause-few g c = cut-few c.args.part.now.q.now c.args.part.now.plan.now c.args.pool.now c.args.part.now.extent.now c.args.at.now.pos _ c.requires.here c.requires.ready _ c.is_cut_off-then-is_empty.ensures.reads
+returns-then-is_empty-clause-few g c = cut-few c.args.at.now.q.now c.args.at.now.part.now c.args.pool.now c.args.e.now c.args.at.now.arriving _ c.requires.here c.requires.ready _ c.is_cut_off-then-is_empty.ensures.reads
 
 pub returns-then-is_cut_off-2-clause-few : goal.returns-then-is_cut_off-2-clause-few
-returns-then-is_cut_off-2-clause-few g c = cut-few c.args.part.now.q.now c.args.part.now.plan.now c.args.pool.now c.args.part.now.extent.now c.args.at.now.pos _ c.requires.here c.requires.ready _ c.is_cut_off-then-is_empty.ensures.reads
+returns-then-is_cut_off-2-clause-few g c = cut-few c.args.at.now.q.now c.args.at.now.part.now c.args.pool.now c.args.e.now c.args.at.now.arriving _ c.requires.here c.requires.ready _ c.is_cut_off-then-is_empty.ensures.reads
 
 pub returns-then-is_empty-clause-reads : goal.returns-then-is_empty-clause-reads
 returns-then-is_empty-clause-reads g c =
-    room-for-more c.args.part.now.q.now c.args.part.now.plan.now c.args.pool.now c.args.part.now.extent.now c.args.at.now.pos _ c.requires.here c.requires.ready (let v = ap length c.as_slice-streams.ensures.value in let f = c.if-streams-gt3.false in omega (arith, v, f)) _ (cut-few c.args.part.now.q.now c.args.part.now.plan.now c.args.pool.now c.args.part.now.extent.now c.args.at.now.pos _ c.requires.here c.requires.ready _ c.is_cut_off-then-is_empty.ensures.reads)
+    room-for-more c.args.at.now.q.now c.args.at.now.part.now c.args.pool.now c.args.e.now c.args.at.now.arriving _ c.requires.here c.requires.ready (let v = ap length c.as_slice-streams.ensures.value in let f = c.if-streams-gt3.false in omega (arith, v, f)) _ (cut-few c.args.at.now.q.now c.args.at.now.part.now c.args.pool.now c.args.e.now c.args.at.now.arriving _ c.requires.here c.requires.ready _ c.is_cut_off-then-is_empty.ensures.reads)
 
 pub returns-then-is_cut_off-2-clause-reads : goal.returns-then-is_cut_off-2-clause-reads
 returns-then-is_cut_off-2-clause-reads g c =
-    room-for-more c.args.part.now.q.now c.args.part.now.plan.now c.args.pool.now c.args.part.now.extent.now c.args.at.now.pos _ c.requires.here c.requires.ready (let v = ap length c.as_slice-streams.ensures.value in let f = c.if-streams-gt3.false in omega (arith, v, f)) _ (cut-few c.args.part.now.q.now c.args.part.now.plan.now c.args.pool.now c.args.part.now.extent.now c.args.at.now.pos _ c.requires.here c.requires.ready _ c.is_cut_off-then-is_empty.ensures.reads)
+    room-for-more c.args.at.now.q.now c.args.at.now.part.now c.args.pool.now c.args.e.now c.args.at.now.arriving _ c.requires.here c.requires.ready (let v = ap length c.as_slice-streams.ensures.value in let f = c.if-streams-gt3.false in omega (arith, v, f)) _ (cut-few c.args.at.now.q.now c.args.at.now.part.now c.args.pool.now c.args.e.now c.args.at.now.arriving _ c.requires.here c.requires.ready _ c.is_cut_off-then-is_empty.ensures.reads)
 
 pub returns-then-is_clear_ahead-clause-found : goal.returns-then-is_clear_ahead-clause-found
 returns-then-is_clear_ahead-clause-found g c =
     let held = c.requires.ready.held in
-    let here : c.args.at.now.pos < length c.args.part.now.plan.now.streams.items = omega (arith, c.requires.here, held.walked.plan.count) in
-    clear-ahead c.args.part.now.q.now c.args.part.now.plan.now c.args.at.now.pos c.args.at.now.row.now.items _ _ (read_from (cells_of c.args.pool.now c.args.part.now.extent.now)) held.walked here
-    (c.as_slice.ensures.value ∙ c.pairs.ensures) c.as_slice-row.ensures.value (c.is_clear_ahead.ensures.clear c.if-is_clear_ahead.true)
+    let here : c.args.at.now.arriving < length c.args.at.now.part.now.streams.items = omega (arith, c.requires.here, held.walked.plan.count) in
+    clear-ahead c.args.at.now.q.now c.args.at.now.part.now c.args.at.now.arriving c.args.at.now.row.now.items _ _ (read_from (cells_of c.args.pool.now c.args.e.now)) held.walked here
+    refl refl (c.is_clear_ahead.ensures.clear c.if-is_clear_ahead.true)
 
 pub returns-in_default-clause-few : goal.returns-in_default-clause-few
-returns-in_default-clause-few g c = marks-few c.args.part.now.q.now c.args.part.now.plan.now c.args.pool.now c.args.part.now.extent.now c.args.at.now.pos _ (length (start c.args.at.now.pos)) c.requires.here c.requires.ready _ (length (start c.args.at.now.pos) < length c.args.part.now.plan.now.streams.items) (λ there. there) (half-few _ _ _ _ c.is_clear_ahead.ensures.reads)
+returns-in_default-clause-few g c = marks-few c.args.at.now.q.now c.args.at.now.part.now c.args.pool.now c.args.e.now c.args.at.now.arriving _ (length (start c.args.at.now.arriving)) c.requires.here c.requires.ready _ (length (start c.args.at.now.arriving) < length c.args.at.now.part.now.streams.items) (λ there. there) (half-few _ _ _ _ c.is_clear_ahead.ensures.reads)
 
 pub returns-then-is_clear_ahead-clause-few : goal.returns-then-is_clear_ahead-clause-few
-returns-then-is_clear_ahead-clause-few g c = marks-few c.args.part.now.q.now c.args.part.now.plan.now c.args.pool.now c.args.part.now.extent.now c.args.at.now.pos _ (length (start c.args.at.now.pos)) c.requires.here c.requires.ready _ (length (start c.args.at.now.pos) < length c.args.part.now.plan.now.streams.items) (λ there. there) (half-few _ _ _ _ c.is_clear_ahead.ensures.reads)
+returns-then-is_clear_ahead-clause-few g c = marks-few c.args.at.now.q.now c.args.at.now.part.now c.args.pool.now c.args.e.now c.args.at.now.arriving _ (length (start c.args.at.now.arriving)) c.requires.here c.requires.ready _ (length (start c.args.at.now.arriving) < length c.args.at.now.part.now.streams.items) (λ there. there) (half-few _ _ _ _ c.is_clear_ahead.ensures.reads)
 
 pub returns-in_default-clause-reads : goal.returns-in_default-clause-reads
 returns-in_default-clause-reads g c =
-    room-for-more c.args.part.now.q.now c.args.part.now.plan.now c.args.pool.now c.args.part.now.extent.now c.args.at.now.pos _ c.requires.here c.requires.ready (let v = ap length c.as_slice-streams.ensures.value in let f = c.if-streams-gt3.false in omega (arith, v, f)) _
-    (marks-few c.args.part.now.q.now c.args.part.now.plan.now c.args.pool.now c.args.part.now.extent.now c.args.at.now.pos _ (length (start c.args.at.now.pos)) c.requires.here c.requires.ready _ (length (start c.args.at.now.pos) < length c.args.part.now.plan.now.streams.items) (λ there. there) (half-few _ _ _ _ c.is_clear_ahead.ensures.reads))
+    room-for-more c.args.at.now.q.now c.args.at.now.part.now c.args.pool.now c.args.e.now c.args.at.now.arriving _ c.requires.here c.requires.ready (let v = ap length c.as_slice-streams.ensures.value in let f = c.if-streams-gt3.false in omega (arith, v, f)) _
+    (marks-few c.args.at.now.q.now c.args.at.now.part.now c.args.pool.now c.args.e.now c.args.at.now.arriving _ (length (start c.args.at.now.arriving)) c.requires.here c.requires.ready _ (length (start c.args.at.now.arriving) < length c.args.at.now.part.now.streams.items) (λ there. there) (half-few _ _ _ _ c.is_clear_ahead.ensures.reads))
 
 pub returns-then-is_clear_ahead-clause-reads : goal.returns-then-is_clear_ahead-clause-reads
 returns-then-is_clear_ahead-clause-reads g c =
-    room-for-more c.args.part.now.q.now c.args.part.now.plan.now c.args.pool.now c.args.part.now.extent.now c.args.at.now.pos _ c.requires.here c.requires.ready (let v = ap length c.as_slice-streams.ensures.value in let f = c.if-streams-gt3.false in omega (arith, v, f)) _
-    (marks-few c.args.part.now.q.now c.args.part.now.plan.now c.args.pool.now c.args.part.now.extent.now c.args.at.now.pos _ (length (start c.args.at.now.pos)) c.requires.here c.requires.ready _ (length (start c.args.at.now.pos) < length c.args.part.now.plan.now.streams.items) (λ there. there) (half-few _ _ _ _ c.is_clear_ahead.ensures.reads))
+    room-for-more c.args.at.now.q.now c.args.at.now.part.now c.args.pool.now c.args.e.now c.args.at.now.arriving _ c.requires.here c.requires.ready (let v = ap length c.as_slice-streams.ensures.value in let f = c.if-streams-gt3.false in omega (arith, v, f)) _
+    (marks-few c.args.at.now.q.now c.args.at.now.part.now c.args.pool.now c.args.e.now c.args.at.now.arriving _ (length (start c.args.at.now.arriving)) c.requires.here c.requires.ready _ (length (start c.args.at.now.arriving) < length c.args.at.now.part.now.streams.items) (λ there. there) (half-few _ _ _ _ c.is_clear_ahead.ensures.reads))
 
 pub returns-then-is_empty-clause-alone : goal.returns-then-is_empty-clause-alone
-returns-then-is_empty-clause-alone g c two unknown = cut-none c.args.part.now.plan.now _ _ _ two c.is_cut_off-then-is_empty.ensures.reads
+returns-then-is_empty-clause-alone g c two unknown = cut-none c.args.at.now.part.now _ _ _ two c.is_cut_off-then-is_empty.ensures.reads
 
 pub returns-in_default-clause-alone : goal.returns-in_default-clause-alone
-returns-in_default-clause-alone g c two unknown = marks-half c.args.part.now.q.now c.args.part.now.plan.now c.args.pool.now c.args.part.now.extent.now c.args.at.now.pos _ (length (start c.args.at.now.pos)) c.requires.here c.requires.ready _ c.is_clear_ahead.ensures.reads
+returns-in_default-clause-alone g c two unknown = marks-half c.args.at.now.q.now c.args.at.now.part.now c.args.pool.now c.args.e.now c.args.at.now.arriving _ (length (start c.args.at.now.arriving)) c.requires.here c.requires.ready _ c.is_clear_ahead.ensures.reads
 
 pub returns-then-streams-gt3-clause-alone : goal.returns-then-streams-gt3-clause-alone
 returns-then-streams-gt3-clause-alone g c two unknown = absurd (let v = ap length c.as_slice-streams.ensures.value in let t = c.if-streams-gt3.true in omega (arith, v, t, two))

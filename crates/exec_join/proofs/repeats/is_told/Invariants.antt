@@ -1,3 +1,4 @@
+use Rattle.sem_query.specs.Parts.{pairs}
 use Rattle.std.proofs.Common.{◌≡◌, drop, length, map, take}
 use Rattle.std.specs.List.{list_all}
 use Rattle.sem_query.specs.Probing.{is_known}
@@ -8,4 +9,4 @@ abbrev pub invariant-columns : goal.invariant-columns
 invariant-columns l = list_all (is_known l.at.arriving (length l.known)) l.columns ≡ list_all (is_known l.at.arriving (length l.known)) (drop l.column-index l.columns)
 
 abbrev pub invariant-values : goal.invariant-values
-invariant-values l = map (value_in l.at.pairs.now l.at.part.now l.at.arriving l.at.row.now l.known) (take l.i l.columns) ≡ take l.i l.values
+invariant-values l = map (value_in (pairs l.at.q.now) l.at.part.now l.at.arriving l.at.row.now.items l.known) (take l.i l.columns) ≡ take l.i l.values

@@ -1,3 +1,4 @@
+use Rattle.sem_query.specs.Parts.{pairs}
 use Rattle.std.proofs.Common.{◌+◌, ◌*◌, get_or, Option, ◌≡◌, ◌∙◌, ◌<◌, ◌^◌, List, length, map, sym, ap, subst, arith, pos}
 use Rattle.sem_query.specs.Boxes.{dim_size, box_size, place_of, AreFull, AreInside}
 use Rattle.sem_query.specs.declared.plan.Dim.{Dim}
@@ -35,7 +36,7 @@ overflow_mul-run c =
     let whole : full ≡ dims_at c.args.at.now.part.now (length c.args.known.now) = c.as_slice-dim-items.ensures.value ∙ ap (λ s. s.dims.items) c.stream_at-plan.ensures in
     let are-full : AreFull full = subst AreFull (sym whole) c.requires.laid.full in
     let size = ap box_size whole in
-    let values = value_in at.pairs.now at.part.now at.arriving at.row.now c.args.known.now in
+    let values = value_in (pairs at.q.now) at.part.now at.arriving at.row.now.items c.args.known.now in
     let fits = fits-next (narrow at.arriving (length c.args.known.now) at.part.now.equal.items at.part.now.less.items values) (narrower at.arriving (length c.args.known.now) at.part.now.equal.items at.part.now.less.items values)
     full are-full c.dims.dim-index c.dims.run.first c.dims.run.count c.dims.invariant.ahead none c.dims-test.true in
     let d : Dim = get_or full c.dims.dim-index none in
@@ -51,7 +52,7 @@ overflow_mul-run-in-None c =
     let whole : full ≡ dims_at c.args.at.now.part.now (length c.args.known.now) = c.as_slice-dim-items.ensures.value ∙ ap (λ s. s.dims.items) c.stream_at-plan.ensures in
     let are-full : AreFull full = subst AreFull (sym whole) c.requires.laid.full in
     let size = ap box_size whole in
-    let values = value_in at.pairs.now at.part.now at.arriving at.row.now c.args.known.now in
+    let values = value_in (pairs at.q.now) at.part.now at.arriving at.row.now.items c.args.known.now in
     let fits = fits-next (narrow at.arriving (length c.args.known.now) at.part.now.equal.items at.part.now.less.items values) (narrower at.arriving (length c.args.known.now) at.part.now.equal.items at.part.now.less.items values)
     full are-full c.dims.dim-index c.dims.run.first c.dims.run.count c.dims.invariant.ahead none c.dims-test.true in
     let d : Dim = get_or full c.dims.dim-index none in
@@ -67,7 +68,7 @@ overflow_mul-run-in-Some c =
     let whole : full ≡ dims_at c.args.at.now.part.now (length c.args.known.now) = c.as_slice-dim-items.ensures.value ∙ ap (λ s. s.dims.items) c.stream_at-plan.ensures in
     let are-full : AreFull full = subst AreFull (sym whole) c.requires.laid.full in
     let size = ap box_size whole in
-    let values = value_in at.pairs.now at.part.now at.arriving at.row.now c.args.known.now in
+    let values = value_in (pairs at.q.now) at.part.now at.arriving at.row.now.items c.args.known.now in
     let fits = fits-next (narrow at.arriving (length c.args.known.now) at.part.now.equal.items at.part.now.less.items values) (narrower at.arriving (length c.args.known.now) at.part.now.equal.items at.part.now.less.items values)
     full are-full c.dims.dim-index c.dims.run.first c.dims.run.count c.dims.invariant.ahead none c.dims-test.true in
     let d : Dim = get_or full c.dims.dim-index none in
@@ -83,7 +84,7 @@ overflow_add-run c =
     let whole : full ≡ dims_at c.args.at.now.part.now (length c.args.known.now) = c.as_slice-dim-items.ensures.value ∙ ap (λ s. s.dims.items) c.stream_at-plan.ensures in
     let are-full : AreFull full = subst AreFull (sym whole) c.requires.laid.full in
     let size = ap box_size whole in
-    let values = value_in at.pairs.now at.part.now at.arriving at.row.now c.args.known.now in
+    let values = value_in (pairs at.q.now) at.part.now at.arriving at.row.now.items c.args.known.now in
     let fits = fits-next (narrow at.arriving (length c.args.known.now) at.part.now.equal.items at.part.now.less.items values) (narrower at.arriving (length c.args.known.now) at.part.now.equal.items at.part.now.less.items values)
     full are-full c.dims.dim-index c.dims.run.first c.dims.run.count c.dims.invariant.ahead none c.dims-test.true in
     let d : Dim = get_or full c.dims.dim-index none in
@@ -100,7 +101,7 @@ dims-preserved c =
     let full = c.as_slice-dim-items.result.now in
     let whole : full ≡ dims_at c.args.at.now.part.now (length c.args.known.now) = c.as_slice-dim-items.ensures.value ∙ ap (λ s. s.dims.items) c.stream_at-plan.ensures in
     let are-full : AreFull full = subst AreFull (sym whole) c.requires.laid.full in
-    let values = value_in at.pairs.now at.part.now at.arriving at.row.now c.args.known.now in
+    let values = value_in (pairs at.q.now) at.part.now at.arriving at.row.now.items c.args.known.now in
     let d : Dim = get_or full c.dims.dim-index none in
     let narrowed : Dim = narrow at.arriving (length c.args.known.now) at.part.now.equal.items at.part.now.less.items values d in
     let bound : Option Attr = binding_column at.arriving (length c.args.known.now) d.attr at.part.now.equal.items in
@@ -128,8 +129,8 @@ returns-clause-holds c vs h =
     let at = c.args.at.now in
     let full = c.as_slice-dim-items.result.now in
     let whole : full ≡ dims_at c.args.at.now.part.now (length c.args.known.now) = c.as_slice-dim-items.ensures.value ∙ ap (λ s. s.dims.items) c.stream_at-plan.ensures in
-    let narrows : Dim → Dim = narrow at.arriving (length c.args.known.now) at.part.now.equal.items at.part.now.less.items (value_in at.pairs.now at.part.now at.arriving at.row.now c.args.known.now) in
-    let beside = dims-beside at.pairs.now at.part.now at.arriving at.row.now (2 ^ 32) c.args.known.now (λ n. c.requires.laid) c.requires.other in
+    let narrows : Dim → Dim = narrow at.arriving (length c.args.known.now) at.part.now.equal.items at.part.now.less.items (value_in (pairs at.q.now) at.part.now at.arriving at.row.now.items c.args.known.now) in
+    let beside = dims-beside (pairs at.q.now) at.part.now at.arriving at.row.now.items (2 ^ 32) c.args.known.now (λ n. c.requires.laid) c.requires.other in
     let inside : AreInside (map narrows full) vs = subst (λ (ds : List Dim). AreInside (map narrows ds) vs) (beside ∙ sym whole) h in
     let e = ahead-end narrows full c.dims.dim-index c.dims.run.first c.dims.run.count c.dims.invariant.ahead (omega (arith, c.dims-test.false)) vs inside in
     let base = ap (λ s. s.base) c.stream_at-plan.ensures in
@@ -143,5 +144,5 @@ returns-clause-few c =
     let at = c.args.at.now in
     let full = c.as_slice-dim-items.result.now in
     let whole : full ≡ dims_at c.args.at.now.part.now (length c.args.known.now) = c.as_slice-dim-items.ensures.value ∙ ap (λ s. s.dims.items) c.stream_at-plan.ensures in
-    let beside = dims-beside at.pairs.now at.part.now at.arriving at.row.now (2 ^ 32) c.args.known.now (λ n. c.requires.laid) c.requires.other in
+    let beside = dims-beside (pairs at.q.now) at.part.now at.arriving at.row.now.items (2 ^ 32) c.args.known.now (λ n. c.requires.laid) c.requires.other in
     free-end at.part.now at.arriving (length c.args.known.now) full c.dims.dim-index c.dims.run.count (omega (arith, c.dims-test.false)) (beside ∙ sym whole) c.dims.invariant.free

@@ -11,8 +11,8 @@ use Rattle.exec_query.proofs.part.answer_and_put.Goals.{in-Nothing, in-One, in-U
 
 pub returns-in-Some-clause-table : goal.returns-in-Some-clause-table
 returns-in-Some-clause-table g c =
-    let d = c.args.part.now.q.now.distinct in
-    let all : List Found = found_beside c.args.part.now.q.now c.args.part.now.plan.now (read_from (cells_of c.args.pool.now c.args.part.now.extent.now)) c.args.at.now.pos (by_column c.args.at.now.row.now.items) in
+    let d = c.args.at.now.q.now.distinct in
+    let all : List Found = found_beside c.args.at.now.q.now c.args.at.now.part.now (read_from (cells_of c.args.pool.now c.args.e.now)) c.args.at.now.arriving (by_column c.args.at.now.row.now.items) in
     elim c.match-first_look.branch [
       | in-Nothing w ↦ w.table-is ∙ none_added d all c.args.table.now w.in-Nothing.ensures.found
       | in-One w ↦ (
@@ -24,8 +24,8 @@ returns-in-Some-clause-table g c =
 
 pub returns-in-None-clause-table : goal.returns-in-None-clause-table
 returns-in-None-clause-table g c =
-    let d = c.args.part.now.q.now.distinct in
-    let all : List Found = found_beside c.args.part.now.q.now c.args.part.now.plan.now (read_from (cells_of c.args.pool.now c.args.part.now.extent.now)) c.args.at.now.pos (by_column c.args.at.now.row.now.items) in
+    let d = c.args.at.now.q.now.distinct in
+    let all : List Found = found_beside c.args.at.now.q.now c.args.at.now.part.now (read_from (cells_of c.args.pool.now c.args.e.now)) c.args.at.now.arriving (by_column c.args.at.now.row.now.items) in
     elim c.match-first_look.branch [
       | in-Nothing w ↦ w.table-is ∙ none_added d all c.args.table.now w.in-Nothing.ensures.found
       | in-One w ↦ (

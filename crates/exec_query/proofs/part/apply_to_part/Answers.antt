@@ -21,33 +21,33 @@ with-room part pos row cells end room (Some cell) h = (h.0, h.1, subst HasRoom (
 
 pub own_cell-requires-clause-room : goal.own_cell-requires-clause-room
 own_cell-requires-clause-room g c =
-    own_room c.args.part.now.q.now c.args.part.now.plan.now c.from-from.ensures.limits c.requires.ready.held.walked.plan c.args.at.now.pos c.requires.here c.args.at.now.row.now.items
-    (cells_of c.args.pool.now c.args.part.now.extent.now) (c.requires.counts c.if-takes.true) (c.requires.several c.if-takes.true) c.requires.admitted
+    own_room c.args.at.now.q.now c.args.at.now.part.now c.from-from.ensures.limits c.requires.ready.held.walked.plan c.args.at.now.arriving c.requires.here c.args.at.now.row.now.items
+    (cells_of c.args.pool.now c.args.e.now) (c.requires.counts c.if-takes.true) (c.requires.several c.if-takes.true) c.requires.admitted
 
 pub answer_and_put-requires-clause-own : goal.answer_and_put-requires-clause-own
 answer_and_put-requires-clause-own g c =
-    let room : c.args.takes.owns ≡ true → HasRoom (slice_index_or (cells_of c.args.pool.now c.args.part.now.extent.now) (row_cell c.args.part.now.plan.now c.args.at.now.pos c.args.at.now.row.now.items) Cell.Empty)
-    = λ owns. own_room c.args.part.now.q.now c.args.part.now.plan.now c.from-from.ensures.limits c.requires.ready.held.walked.plan c.args.at.now.pos c.requires.here c.args.at.now.row.now.items
-    (cells_of c.args.pool.now c.args.part.now.extent.now) (c.requires.counts owns) (c.requires.several owns) c.requires.admitted in
+    let room : c.args.takes.owns ≡ true → HasRoom (slice_index_or (cells_of c.args.pool.now c.args.e.now) (row_cell c.args.at.now.part.now c.args.at.now.arriving c.args.at.now.row.now.items) Cell.Empty)
+    = λ owns. own_room c.args.at.now.q.now c.args.at.now.part.now c.from-from.ensures.limits c.requires.ready.held.walked.plan c.args.at.now.arriving c.requires.here c.args.at.now.row.now.items
+    (cells_of c.args.pool.now c.args.e.now) (c.requires.counts owns) (c.requires.several owns) c.requires.admitted in
     let there : (own : Option OwnCell) → c.if-takes.own ≡ own
-    → IfSome own (λ (cell : OwnCell). IsOwnCell c.args.part.now.plan.now c.args.at.now.pos c.args.at.now.row.now.items (cells_of c.args.pool.now c.args.part.now.extent.now) cell × (cell.number < 64 * c.args.part.now.extent.now.pages) × HasRoom cell.held)
-    → IfSome c.if-takes.own (λ (cell : OwnCell). IsOwnCell c.args.part.now.plan.now c.args.at.now.pos c.args.at.now.row.now.items (cells_of c.args.pool.now c.args.part.now.extent.now) cell × (cell.number < 64 * c.args.part.now.extent.now.pages) × HasRoom cell.held)
-    = λ own is h. subst (λ (o : Option OwnCell). IfSome o (λ (cell : OwnCell). IsOwnCell c.args.part.now.plan.now c.args.at.now.pos c.args.at.now.row.now.items (cells_of c.args.pool.now c.args.part.now.extent.now) cell × (cell.number < 64 * c.args.part.now.extent.now.pages) × HasRoom cell.held)) (sym is) h in
+    → IfSome own (λ (cell : OwnCell). IsOwnCell c.args.at.now.part.now c.args.at.now.arriving c.args.at.now.row.now.items (cells_of c.args.pool.now c.args.e.now) cell × (cell.number < 64 * c.args.e.now.pages) × HasRoom cell.held)
+    → IfSome c.if-takes.own (λ (cell : OwnCell). IsOwnCell c.args.at.now.part.now c.args.at.now.arriving c.args.at.now.row.now.items (cells_of c.args.pool.now c.args.e.now) cell × (cell.number < 64 * c.args.e.now.pages) × HasRoom cell.held)
+    = λ own is h. subst (λ (o : Option OwnCell). IfSome o (λ (cell : OwnCell). IsOwnCell c.args.at.now.part.now c.args.at.now.arriving c.args.at.now.row.now.items (cells_of c.args.pool.now c.args.e.now) cell × (cell.number < 64 * c.args.e.now.pages) × HasRoom cell.held)) (sym is) h in
     elim c.if-takes.branch [
       | then-takes+in-Some w ↦ there c.args.takes.own (w.own-is ∙ sym w.in-Some.is)
-          (with-room c.args.part.now.plan.now c.args.at.now.pos c.args.at.now.row.now.items (cells_of c.args.pool.now c.args.part.now.extent.now) (64 * c.args.part.now.extent.now.pages) (room w.if-takes.true) c.args.takes.own c.requires.own)
+          (with-room c.args.at.now.part.now c.args.at.now.arriving c.args.at.now.row.now.items (cells_of c.args.pool.now c.args.e.now) (64 * c.args.e.now.pages) (room w.if-takes.true) c.args.takes.own c.requires.own)
       | then-takes+in-None w ↦ there (Some w.own_cell.result) w.own-is (w.own_cell.ensures.own, w.own_cell.ensures.inside, subst HasRoom (sym w.own_cell.ensures.own.held) (room w.if-takes.true))
       | else-takes w ↦ there None w.own-is tt
     ]
 
 pub answer_and_put-requires-clause-room : goal.answer_and_put-requires-clause-room
 answer_and_put-requires-clause-room g c =
-    subst (λ fs. HaveRoom c.args.part.now.q.now.distinct fs c.args.table.now)
-    (found_admitted c.args.part.now.q.now c.args.part.now.plan.now c.from-from.ensures.limits c.requires.ready.held.walked.plan c.args.at.now.pos c.requires.here c.args.at.now.row.now.items (read_from (cells_of c.args.pool.now c.args.part.now.extent.now)) c.requires.admitted)
+    subst (λ fs. HaveRoom c.args.at.now.q.now.distinct fs c.args.table.now)
+    (found_admitted c.args.at.now.q.now c.args.at.now.part.now c.from-from.ensures.limits c.requires.ready.held.walked.plan c.args.at.now.arriving c.requires.here c.args.at.now.row.now.items (read_from (cells_of c.args.pool.now c.args.e.now)) c.requires.admitted)
     c.requires.room
 
 pub returns-clause-table : goal.returns-clause-table
 returns-clause-table g c =
-    all_added c.args.part.now.q.now.distinct _ _ c.args.table.now c.answer_and_put.new.table
-    (found_admitted c.args.part.now.q.now c.args.part.now.plan.now c.from-from.ensures.limits c.requires.ready.held.walked.plan c.args.at.now.pos c.requires.here c.args.at.now.row.now.items (read_from (cells_of c.args.pool.now c.args.part.now.extent.now)) c.requires.admitted)
+    all_added c.args.at.now.q.now.distinct _ _ c.args.table.now c.answer_and_put.new.table
+    (found_admitted c.args.at.now.q.now c.args.at.now.part.now c.from-from.ensures.limits c.requires.ready.held.walked.plan c.args.at.now.arriving c.requires.here c.args.at.now.row.now.items (read_from (cells_of c.args.pool.now c.args.e.now)) c.requires.admitted)
     c.answer_and_put.ensures.table

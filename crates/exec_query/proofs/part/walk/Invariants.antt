@@ -11,13 +11,13 @@ use Rattle.exec_query.proofs.part.walk.Given as goal
 
 abbrev pub invariant-walk : goal.invariant-walk
 invariant-walk g l = record {
-  underway : IsUnderway l.part.plan.now l.probe;
-  room : HaveRoom l.part.q.now.distinct (left_of l.part.q.now.select l.part.plan.now (read_from (cells_of l.pool l.part.extent.now)) l.probe) l.table;
-  table : with_entries l.table (with_all l.part.q.now.distinct (left_of l.part.q.now.select l.part.plan.now (read_from (cells_of l.pool l.part.extent.now)) l.probe) l.table.entries)
-      ≡ with_entries l.fn.table (with_all l.part.q.now.distinct (found_beside l.part.q.now l.part.plan.now (read_from (cells_of l.pool l.part.extent.now)) l.at.pos (by_column l.at.row.now.items)) l.fn.table.entries);
-  reads : l.steps.reads + reads_left l.part.plan.now l.probe ≤ l.fn.steps.reads + walk_reads l.part.plan.now l.at.pos;
+  underway : IsUnderway l.at.part.now l.probe;
+  room : HaveRoom l.at.q.now.distinct (left_of l.at.q.now.select l.at.part.now (read_from (cells_of l.pool l.e)) l.probe) l.table;
+  table : with_entries l.table (with_all l.at.q.now.distinct (left_of l.at.q.now.select l.at.part.now (read_from (cells_of l.pool l.e)) l.probe) l.table.entries)
+      ≡ with_entries l.fn.table (with_all l.at.q.now.distinct (found_beside l.at.q.now l.at.part.now (read_from (cells_of l.pool l.e)) l.at.arriving (by_column l.at.row.now.items)) l.fn.table.entries);
+  reads : l.steps.reads + reads_left l.at.part.now l.probe ≤ l.fn.steps.reads + walk_reads l.at.part.now l.at.arriving;
   writes : l.steps.writes ≡ l.fn.steps.writes;
 }
 
 abbrev pub decreases-walk : goal.decreases-walk
-decreases-walk g l = length (left_of l.part.q.now.select l.part.plan.now (read_from (cells_of l.pool l.part.extent.now)) l.probe)
+decreases-walk g l = length (left_of l.at.q.now.select l.at.part.now (read_from (cells_of l.pool l.e)) l.probe)

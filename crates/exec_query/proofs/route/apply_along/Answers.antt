@@ -39,8 +39,8 @@ reach-requires-clause-held g c =
     let o = c.args.led.now in
     held-parts o.q.now o.parts.now c.args.led.now.extent.now o.pos c.requires.here o.row.now.items c.args.pool.now c.requires.ready c.parts.pool c.parts.invariant.done.taken.live
 
-pub apply_to_part-changed-requires-clause-ready : goal.apply_to_part-changed-requires-clause-ready
-apply_to_part-changed-requires-clause-ready g c =
+pub apply_to_part-requires-clause-ready : goal.apply_to_part-requires-clause-ready
+apply_to_part-requires-clause-ready g c =
     let o = c.args.led.now in
     let e = c.args.led.now.extent.now in
     let m = c.in-Part.met.i in
@@ -52,8 +52,8 @@ apply_to_part-changed-requires-clause-ready g c =
     (λ f. sym (ap number_of (c.reach.ensures.none f)) ∙ ap number_of c.in-Part.is) c.in-Part.ensures.reached.0 c.parts.invariant.done in
     ready_part o.q.now o.parts.now e o.pos c.requires.here o.row.now.items c.args.pool.now c.requires.ready m c.get-plan.result.now at_m c.parts.pool done.taken
 
-pub apply_to_part-changed-requires-clause-prepared : goal.apply_to_part-changed-requires-clause-prepared
-apply_to_part-changed-requires-clause-prepared g c =
+pub apply_to_part-requires-clause-prepared : goal.apply_to_part-requires-clause-prepared
+apply_to_part-requires-clause-prepared g c =
     let o = c.args.led.now in
     let e = c.args.led.now.extent.now in
     let m = c.in-Part.met.i in
@@ -61,8 +61,8 @@ apply_to_part-changed-requires-clause-prepared g c =
     = slice_get-get_or o.parts.now m c.get-plan.result.now c.in-Part.ensures.reached.1.inside ∙ ap (λ (p : PartPlan). Some p) (sym (c.get-plan.ensures c.get-plan.result.now)) in
     c.part.ensures c.get-plan.result.now at_m
 
-pub apply_to_part-changed-requires-clause-room : goal.apply_to_part-changed-requires-clause-room
-apply_to_part-changed-requires-clause-room g c =
+pub apply_to_part-requires-clause-room : goal.apply_to_part-requires-clause-room
+apply_to_part-requires-clause-room g c =
     let o = c.args.led.now in
     let e = c.args.led.now.extent.now in
     let m = c.in-Part.met.i in
@@ -75,8 +75,8 @@ apply_to_part-changed-requires-clause-room g c =
     room_now o.q.now o.parts.now e o.pos c.requires.here o.row.now.items c.args.pool.now c.requires.ready m c.get-plan.result.now at_m c.parts.pool done.taken
     o.q.now.distinct c.args.table.now c.parts.table c.requires.room done.found
 
-pub apply_to_part-changed-requires-clause-counts : goal.apply_to_part-changed-requires-clause-counts
-apply_to_part-changed-requires-clause-counts g c =
+pub apply_to_part-requires-clause-counts : goal.apply_to_part-requires-clause-counts
+apply_to_part-requires-clause-counts g c =
     let o = c.args.led.now in
     let e = c.args.led.now.extent.now in
     let m = c.in-Part.met.i in
@@ -106,8 +106,8 @@ cell_after-told-requires-clause-part g c =
     = slice_get-get_or o.parts.now m c.get-plan.result.now c.in-Part.ensures.reached.1.inside ∙ ap (λ (p : PartPlan). Some p) (sym (c.get-plan.ensures c.get-plan.result.now)) in
     at_m
 
-pub apply_to_part-changed-requires-clause-admitted : goal.apply_to_part-changed-requires-clause-admitted
-apply_to_part-changed-requires-clause-admitted g c =
+pub apply_to_part-requires-clause-admitted : goal.apply_to_part-requires-clause-admitted
+apply_to_part-requires-clause-admitted g c =
     let o = c.args.led.now in
     let e = c.args.led.now.extent.now in
     let m = c.in-Part.met.i in
@@ -115,8 +115,8 @@ apply_to_part-changed-requires-clause-admitted g c =
     = slice_get-get_or o.parts.now m c.get-plan.result.now c.in-Part.ensures.reached.1.inside ∙ ap (λ (p : PartPlan). Some p) (sym (c.get-plan.ensures c.get-plan.result.now)) in
     sym (c.in-Part.ensures.reached.1.placed c.get-plan.result.now at_m).inside ∙ sym c.is_inside.ensures ∙ c.if-is_inside.true
 
-pub apply_to_part-changed-requires-clause-placement : goal.apply_to_part-changed-requires-clause-placement
-apply_to_part-changed-requires-clause-placement g c =
+pub apply_to_part-requires-clause-placement : goal.apply_to_part-requires-clause-placement
+apply_to_part-requires-clause-placement g c =
     let o = c.args.led.now in
     let e = c.args.led.now.extent.now in
     let m = c.in-Part.met.i in
@@ -124,8 +124,8 @@ apply_to_part-changed-requires-clause-placement g c =
     = slice_get-get_or o.parts.now m c.get-plan.result.now c.in-Part.ensures.reached.1.inside ∙ ap (λ (p : PartPlan). Some p) (sym (c.get-plan.ensures c.get-plan.result.now)) in
     (c.in-Part.ensures.reached.1.placed c.get-plan.result.now at_m).cell
 
-pub apply_to_part-changed-requires-clause-own : goal.apply_to_part-changed-requires-clause-own
-apply_to_part-changed-requires-clause-own g c =
+pub apply_to_part-requires-clause-own : goal.apply_to_part-requires-clause-own
+apply_to_part-requires-clause-own g c =
     let o = c.args.led.now in
     let e = c.args.led.now.extent.now in
     let m = c.in-Part.met.i in
@@ -180,10 +180,10 @@ parts-preserved g c =
     let one : HaveDone o.q.now o.parts.now e o.pos o.row.now.items c.args.pool.now c.args.table.now c.args.steps.now (m + 1) c.if-is_inside.pool c.if-is_inside.table c.if-is_inside.steps
     = elim c.if-is_inside.branch [
       | then-is_inside w ↦ record {
-        taken = taken_step o.q.now o.parts.now e o.pos c.requires.here o.row.now.items c.args.pool.now c.requires.ready m c.get-plan.result.now at_m c.parts.pool done.taken w.owns-owns.result w.owns-owns.ensures c.if-is_inside.pool (w.pool-is ∙ w.apply_to_part-changed.ensures.pool);
-        found = table_more o.q.now o.parts.now e o.pos c.requires.here o.row.now.items c.args.pool.now c.requires.ready m c.get-plan.result.now at_m c.parts.pool done.taken o.q.now.distinct c.args.table.now c.parts.table c.if-is_inside.table done.found (w.table-is ∙ w.apply_to_part-changed.ensures.table);
-        reads = (let a = done.reads in let b = w.apply_to_part-changed.ensures.reads in let s = ap (λ (x : StepsValue). x.reads) w.steps-is in omega (arith, more, a, b, s, came, low));
-        writes = (let a = done.writes in let b = w.apply_to_part-changed.ensures.writes in let s = ap (λ (x : StepsValue). x.writes) w.steps-is in omega (arith, a, b, s, wrote));
+        taken = taken_step o.q.now o.parts.now e o.pos c.requires.here o.row.now.items c.args.pool.now c.requires.ready m c.get-plan.result.now at_m c.parts.pool done.taken w.owns-owns.result w.owns-owns.ensures c.if-is_inside.pool (w.pool-is ∙ w.apply_to_part.ensures.pool);
+        found = table_more o.q.now o.parts.now e o.pos c.requires.here o.row.now.items c.args.pool.now c.requires.ready m c.get-plan.result.now at_m c.parts.pool done.taken o.q.now.distinct c.args.table.now c.parts.table c.if-is_inside.table done.found (w.table-is ∙ w.apply_to_part.ensures.table);
+        reads = (let a = done.reads in let b = w.apply_to_part.ensures.reads in let s = ap (λ (x : StepsValue). x.reads) w.steps-is in omega (arith, more, a, b, s, came, low));
+        writes = (let a = done.writes in let b = w.apply_to_part.ensures.writes in let s = ap (λ (x : StepsValue). x.writes) w.steps-is in omega (arith, a, b, s, wrote));
       }
       | else-is_inside w ↦ (
           let refused = passed_one o.q.now o.parts.now e o.pos c.requires.here o.row.now.items c.args.pool.now c.requires.ready c.args.table.now c.args.steps.now c.parts.pool c.parts.table (paid_to c.parts.steps c.parts.i m) m c.get-plan.result.now at_m
@@ -198,8 +198,8 @@ parts-preserved g c =
     let same : c.if-is_inside.same ≡ true → c.if-is_inside.pool ≡ c.args.pool.now
     = elim c.if-is_inside.branch [
       | then-is_inside w ↦ (λ h.
-          let both : (c.parts.same && not w.apply_to_part-changed.result) ≡ true = sym w.same-is ∙ h in
-          w.pool-is ∙ w.apply_to_part-changed.ensures.same (turned w.apply_to_part-changed.result (and-right c.parts.same _ both)) ∙ c.parts.invariant.same (and-left _ (not w.apply_to_part-changed.result) both))
+          let both : (c.parts.same && not w.apply_to_part.result) ≡ true = sym w.same-is ∙ h in
+          w.pool-is ∙ w.apply_to_part.ensures.same (turned w.apply_to_part.result (and-right c.parts.same _ both)) ∙ c.parts.invariant.same (and-left _ (not w.apply_to_part.result) both))
       | else-is_inside w ↦ (λ h. w.pool-is ∙ c.parts.invariant.same (sym w.same-is ∙ h))
     ] in
     record {

@@ -1,3 +1,4 @@
+use Rattle.sem_query.specs.Parts.{pairs}
 use Rattle.std.proofs.Common.{rules, w64, SFits, to_z, of_z, ◌≡◌, ◌+◌, ◌*◌, ◌<◌, ◌^◌, ℕ, length, map, get_or, refl, sym, ap, ◌∙◌, subst, arith, pos}
 use Rattle.sem_query.specs.Boxes.{dim_size, box_size, place_of, AreFull}
 use Rattle.sem_query.specs.declared.plan.Dim.{Dim}
@@ -33,12 +34,12 @@ overflow_mul-place c =
     let are-full : AreFull full = subst AreFull (sym whole) c.requires.laid.full in
     let size = ap box_size whole in
     let few : box_size full < 2 ^ 32 = omega (arith, size, c.requires.laid.size, c.requires.laid.few) in
-    let narrows : Dim → Dim = narrow c.args.at.now.arriving (length c.args.known.now) c.args.at.now.part.now.equal.items c.args.at.now.part.now.less.items (value_in c.args.at.now.pairs.now c.args.at.now.part.now c.args.at.now.arriving c.args.at.now.row.now c.args.known.now) in
+    let narrows : Dim → Dim = narrow c.args.at.now.arriving (length c.args.known.now) c.args.at.now.part.now.equal.items c.args.at.now.part.now.less.items (value_in (pairs c.args.at.now.q.now) c.args.at.now.part.now c.args.at.now.arriving c.args.at.now.row.now.items c.args.known.now) in
     let d : Dim = get_or full c.dims.dim-index none in
     let n = c.in-Some-pinned.fixed in
     let fits64 : SFits w64 c.value_in.result = search rules in
     let same : to_z w64 (of_z w64 c.value_in.result) ≡ c.value_in.result = omega (arith, ints) in
-    let so : IsFixed d (narrows d) n = fixed-narrow c.args.at.now.arriving (length c.args.known.now) c.args.at.now.part.now.equal.items c.args.at.now.part.now.less.items (value_in c.args.at.now.pairs.now c.args.at.now.part.now c.args.at.now.arriving c.args.at.now.row.now c.args.known.now) d c.in-Some.column n
+    let so : IsFixed d (narrows d) n = fixed-narrow c.args.at.now.arriving (length c.args.known.now) c.args.at.now.part.now.equal.items c.args.at.now.part.now.less.items (value_in (pairs c.args.at.now.q.now) c.args.at.now.part.now c.args.at.now.arriving c.args.at.now.row.now.items c.args.known.now) d c.in-Some.column n
     (ap (binding_column c.args.at.now.arriving (length c.args.known.now) d.attr) (sym c.as_slice-links.ensures.value) ∙ sym c.binding_column.ensures ∙ c.in-Some.is)
     (c.in-Some-pinned.ensures.0 ∙ ap (narrowed_to d) (same ∙ c.value_in.ensures))
     c.in-Some-pinned.ensures.1 in
@@ -53,12 +54,12 @@ overflow_add-place c =
     let are-full : AreFull full = subst AreFull (sym whole) c.requires.laid.full in
     let size = ap box_size whole in
     let few : box_size full < 2 ^ 32 = omega (arith, size, c.requires.laid.size, c.requires.laid.few) in
-    let narrows : Dim → Dim = narrow c.args.at.now.arriving (length c.args.known.now) c.args.at.now.part.now.equal.items c.args.at.now.part.now.less.items (value_in c.args.at.now.pairs.now c.args.at.now.part.now c.args.at.now.arriving c.args.at.now.row.now c.args.known.now) in
+    let narrows : Dim → Dim = narrow c.args.at.now.arriving (length c.args.known.now) c.args.at.now.part.now.equal.items c.args.at.now.part.now.less.items (value_in (pairs c.args.at.now.q.now) c.args.at.now.part.now c.args.at.now.arriving c.args.at.now.row.now.items c.args.known.now) in
     let d : Dim = get_or full c.dims.dim-index none in
     let n = c.in-Some-pinned.fixed in
     let fits64 : SFits w64 c.value_in.result = search rules in
     let same : to_z w64 (of_z w64 c.value_in.result) ≡ c.value_in.result = omega (arith, ints) in
-    let so : IsFixed d (narrows d) n = fixed-narrow c.args.at.now.arriving (length c.args.known.now) c.args.at.now.part.now.equal.items c.args.at.now.part.now.less.items (value_in c.args.at.now.pairs.now c.args.at.now.part.now c.args.at.now.arriving c.args.at.now.row.now c.args.known.now) d c.in-Some.column n
+    let so : IsFixed d (narrows d) n = fixed-narrow c.args.at.now.arriving (length c.args.known.now) c.args.at.now.part.now.equal.items c.args.at.now.part.now.less.items (value_in (pairs c.args.at.now.q.now) c.args.at.now.part.now c.args.at.now.arriving c.args.at.now.row.now.items c.args.known.now) d c.in-Some.column n
     (ap (binding_column c.args.at.now.arriving (length c.args.known.now) d.attr) (sym c.as_slice-links.ensures.value) ∙ sym c.binding_column.ensures ∙ c.in-Some.is)
     (c.in-Some-pinned.ensures.0 ∙ ap (narrowed_to d) (same ∙ c.value_in.ensures))
     c.in-Some-pinned.ensures.1 in
@@ -73,12 +74,12 @@ dims-preserved c =
     let are-full : AreFull full = subst AreFull (sym whole) c.requires.laid.full in
     let size = ap box_size whole in
     let few : box_size full < 2 ^ 32 = omega (arith, size, c.requires.laid.size, c.requires.laid.few) in
-    let narrows : Dim → Dim = narrow c.args.at.now.arriving (length c.args.known.now) c.args.at.now.part.now.equal.items c.args.at.now.part.now.less.items (value_in c.args.at.now.pairs.now c.args.at.now.part.now c.args.at.now.arriving c.args.at.now.row.now c.args.known.now) in
+    let narrows : Dim → Dim = narrow c.args.at.now.arriving (length c.args.known.now) c.args.at.now.part.now.equal.items c.args.at.now.part.now.less.items (value_in (pairs c.args.at.now.q.now) c.args.at.now.part.now c.args.at.now.arriving c.args.at.now.row.now.items c.args.known.now) in
     let d : Dim = get_or full c.dims.dim-index none in
     let n = c.in-Some-pinned.fixed in
     let fits64 : SFits w64 c.value_in.result = search rules in
     let same : to_z w64 (of_z w64 c.value_in.result) ≡ c.value_in.result = omega (arith, ints) in
-    let so : IsFixed d (narrows d) n = fixed-narrow c.args.at.now.arriving (length c.args.known.now) c.args.at.now.part.now.equal.items c.args.at.now.part.now.less.items (value_in c.args.at.now.pairs.now c.args.at.now.part.now c.args.at.now.arriving c.args.at.now.row.now c.args.known.now) d c.in-Some.column n
+    let so : IsFixed d (narrows d) n = fixed-narrow c.args.at.now.arriving (length c.args.known.now) c.args.at.now.part.now.equal.items c.args.at.now.part.now.less.items (value_in (pairs c.args.at.now.q.now) c.args.at.now.part.now c.args.at.now.arriving c.args.at.now.row.now.items c.args.known.now) d c.in-Some.column n
     (ap (binding_column c.args.at.now.arriving (length c.args.known.now) d.attr) (sym c.as_slice-links.ensures.value) ∙ sym c.binding_column.ensures ∙ c.in-Some.is)
     (c.in-Some-pinned.ensures.0 ∙ ap (narrowed_to d) (same ∙ c.value_in.ensures))
     c.in-Some-pinned.ensures.1 in
@@ -107,9 +108,9 @@ returns c =
     let size = ap box_size whole in
     let few : box_size full < 2 ^ 32 = omega (arith, size, c.requires.laid.size, c.requires.laid.few) in
     let e = fixed-end _ full c.dims.dims.items c.dims.dim-index c.dims.place c.dims.invariant (omega (arith, c.dims-test.false)) in
-    let beside = dims-beside c.args.at.now.pairs.now c.args.at.now.part.now c.args.at.now.arriving c.args.at.now.row.now (2 ^ 32) c.args.known.now (λ n. c.requires.laid) c.requires.other in
+    let beside = dims-beside (pairs c.args.at.now.q.now) c.args.at.now.part.now c.args.at.now.arriving c.args.at.now.row.now.items (2 ^ 32) c.args.known.now (λ n. c.requires.laid) c.requires.other in
     record {
-      are = e.0 ∙ ap (map (narrow c.args.at.now.arriving (length c.args.known.now) c.args.at.now.part.now.equal.items c.args.at.now.part.now.less.items (value_in c.args.at.now.pairs.now c.args.at.now.part.now c.args.at.now.arriving c.args.at.now.row.now c.args.known.now))) (whole ∙ sym beside);
+      are = e.0 ∙ ap (map (narrow c.args.at.now.arriving (length c.args.known.now) c.args.at.now.part.now.equal.items c.args.at.now.part.now.less.items (value_in (pairs c.args.at.now.q.now) c.args.at.now.part.now c.args.at.now.arriving c.args.at.now.row.now.items c.args.known.now))) (whole ∙ sym beside);
       one = c.dims.invariant.one;
       cell = (λ k. (sym c.stream_at-plan.ensures k).base + place_of (sym whole k) (map (λ d. d.lo) c.dims.dims.items)) ∙ ap (λ n. c.stream_at-plan.result.now.base + n) (sym e.2);
     }

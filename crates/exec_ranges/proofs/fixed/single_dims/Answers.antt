@@ -1,3 +1,4 @@
+use Rattle.sem_query.specs.Parts.{pairs}
 use Rattle.std.proofs.Common.{◌≡◌, ◌∙◌, List, length, sym, ap, subst}
 use Rattle.sem_query.specs.Plan.{stream_at, dims_at}
 use Rattle.sem_query.specs.declared.plan.Dim.{Dim}
@@ -16,6 +17,6 @@ returns c =
     let plan : c.stream_at-plan.result.now ≡ stream_at part (length known) = c.stream_at-plan.ensures in
     let one : (stream_at part (length known)).size ≡ 1 = ap (λ (s : StreamPlan). s.size) (sym plan) ∙ c.if-plan-ne1.false in
     let ds : c.copy_from.new.self.items ≡ dims_at part (length known) = c.copy_from.ensures ∙ c.as_slice.ensures.value ∙ ap (λ (s : StreamPlan). s.dims.items) plan in
-    subst (λ (n : StreamPlan). AreFixed part (length known) (narrowed_dims c.args.at.now.pairs.now part c.args.at.now.arriving c.args.at.now.row.now known) c.copy_from.new.self.items n.base) (sym plan)
-    (subst (λ (xs : List Dim). AreFixed part (length known) (narrowed_dims c.args.at.now.pairs.now part c.args.at.now.arriving c.args.at.now.row.now known) xs (stream_at part (length known)).base) (sym ds)
-    (whole-fixed c.args.at.now.pairs.now part c.args.at.now.arriving c.args.at.now.row.now known c.requires.laid c.requires.other whole one))
+    subst (λ (n : StreamPlan). AreFixed part (length known) (narrowed_dims (pairs c.args.at.now.q.now) part c.args.at.now.arriving c.args.at.now.row.now.items known) c.copy_from.new.self.items n.base) (sym plan)
+    (subst (λ (xs : List Dim). AreFixed part (length known) (narrowed_dims (pairs c.args.at.now.q.now) part c.args.at.now.arriving c.args.at.now.row.now.items known) xs (stream_at part (length known)).base) (sym ds)
+    (whole-fixed (pairs c.args.at.now.q.now) part c.args.at.now.arriving c.args.at.now.row.now.items known c.requires.laid c.requires.other whole one))

@@ -1,4 +1,7 @@
-use Rattle.std.proofs.Common.{◌≡◌, ◌∙◌, ◌==◌, rules, arith, sym, ap, false, Some, slice_get, FitsSigned, w64, if◌then◌else◌}
+use Rattle.sem_query.specs.Parts.{pairs}
+use Rattle.sem_query.specs.declared.part.Pair.{Pair}
+use Rattle.exec_synopsis.specs.Preparing.{class_of}
+use Rattle.std.proofs.Common.{List, ◌≡◌, ◌∙◌, ◌==◌, rules, arith, sym, ap, false, Some, slice_get, FitsSigned, w64, if◌then◌else◌}
 use Rattle.std.proofs.lemmas.Bool.Decides.{nat_tests}
 use Rattle.std.proofs.lemmas.Int.{to_z-of_z}
 use Rattle.std.proofs.lemmas.Option.{slice_get-get_or}
@@ -20,12 +23,13 @@ returns c =
     let got = c.in-Some.ensures.lookup.3 in
     let there : slice_get c.args.known.now c.args.a.stream ≡ Some c.in-Some.chosen.now
     = ap (slice_get c.args.known.now) (sym c.from.ensures) ∙ slice_get-get_or c.args.known.now c.from.result c.in-Some.chosen.now got.0 ∙ ap (λ (b : Binding). Some b) (sym (got.1 c.in-Some.chosen.now)) in
+    let place = c.class_of-place.ensures ∙ ap (λ (ps : List Pair). class_of ps at.part.now c.args.a) (c.as_slice-2.ensures.value ∙ c.pairs.ensures) in
     let told =
     given
-    ∙ (λ k. value_or (c.as_slice.ensures.value k) (c.extreme_of.ensures k) (c.class_of-place.ensures k))
-    ∙ sym (valued_at at.pairs.now at.part.now _ c.args.a (dims_at at.part.now c.args.a.stream) _) in
+    ∙ (λ k. value_or (c.as_slice-3.ensures.value k) (c.extreme_of.ensures k) (place k))
+    ∙ sym (valued_at (pairs at.q.now) at.part.now _ c.args.a (dims_at at.part.now c.args.a.stream) _) in
     rw to_z-of_z (
     told
-    ∙ sym (ap (chosen_value at.pairs.now at.part.now c.args.a) there)
-    ∙ sym (ap (λ b. if b then by_column at.row.now c.args.a.column else chosen_value at.pairs.now at.part.now c.args.a (slice_get c.args.known.now c.args.a.stream)) other)
+    ∙ sym (ap (chosen_value (pairs at.q.now) at.part.now c.args.a) there)
+    ∙ sym (ap (λ b. if b then by_column at.row.now.items c.args.a.column else chosen_value (pairs at.q.now) at.part.now c.args.a (slice_get c.args.known.now c.args.a.stream)) other)
     )

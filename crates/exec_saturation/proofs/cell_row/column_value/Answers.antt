@@ -15,11 +15,11 @@ returns c =
     let own : FitsSigned w64 c.extreme_of.result = search rules in
     let given = simp to_z-of_z at c.value_or.ensures in
     let a : Attr = record { stream = c.args.pos; column = c.args.column } in
-    let class : c.class_of-class.result ≡ class_of (pairs c.args.part.now.q.now) c.args.part.now.plan.now a
-    = c.class_of-class.ensures ∙ ap (λ ps. class_of ps c.args.part.now.plan.now a) (c.as_slice.ensures.value ∙ c.pairs.ensures) in
+    let class : c.class_of-class.result ≡ class_of (pairs c.args.q.now) c.args.part.now a
+    = c.class_of-class.ensures ∙ ap (λ ps. class_of ps c.args.part.now a) (c.as_slice.ensures.value ∙ c.pairs.ensures) in
     rw to_z-of_z (
     given
     ∙ (λ k. value_or c.args.values.now (c.extreme_of.ensures k) (class k))
-    ∙ sym (valued_at (pairs c.args.part.now.q.now) c.args.part.now.plan.now (extreme_of c.args.held) a (dims_at c.args.part.now.plan.now c.args.pos) c.args.values.now)
-    ∙ looked-up c.args.part.now.q.now c.args.part.now.plan.now (dims_at c.args.part.now.plan.now c.args.pos) c.args.values.now (extreme_of c.args.held) a
+    ∙ sym (valued_at (pairs c.args.q.now) c.args.part.now (extreme_of c.args.held) a (dims_at c.args.part.now c.args.pos) c.args.values.now)
+    ∙ looked-up c.args.q.now c.args.part.now (dims_at c.args.part.now c.args.pos) c.args.values.now (extreme_of c.args.held) a
     )

@@ -7,5 +7,5 @@ use Rattle.exec_saturation.proofs.cell_row.row_of_cell.Given as goal
 abbrev pub invariant-columns : goal.invariant-columns
 invariant-columns l = record {
   many : length l.row.items ≡ l.column;
-  each : (column : ℕ) → column < l.column → by_column l.row.items column ≡ row_of_values l.part.q.now l.part.plan.now l.cell.pos l.values.items (extreme_of l.cell.held) column;
+  each : (column : ℕ) → column < l.column → by_column l.row.items column ≡ row_of_values l.q l.part l.pos l.values.items (extreme_of l.cell.held) column;
 }

@@ -16,12 +16,12 @@ cells-preserved g c = record {
 
 pub returns-clause-known : goal.returns-clause-known
 returns-clause-known g c =
-    all-known c.args.all.now.q.now c.args.parts.now (read_from (cells_of c.args.pool.now c.args.all.now.extent.now)) (tuples_of c.args.all.now.table.now.entries)
+    all-known c.args.planned.now.query c.args.parts.now (read_from (cells_of c.args.pool.now c.args.planned.now.extent)) (tuples_of c.args.table.now.entries)
     c.cells.came.at (let n = c.cells-test.false in let m = c.len.ensures in omega (arith, n, m)) c.cells.invariant.known
 
 pub returns-in-Stays-clause-moves : goal.returns-in-Stays-clause-moves
 returns-in-Stays-clause-moves g c =
-    stays-where c.args.from.at c.cells.came.at c.args.from.left c.cells.came.left (work_of c.args.all.now.plan.now) c.cells.invariant.moved c.in-Stays.ensures.stepped
+    stays-where c.args.from.at c.cells.came.at c.args.from.left c.cells.came.left (work_of c.args.planned.now.plan) c.cells.invariant.moved c.in-Stays.ensures.stepped
 
 pub cells-init : goal.cells-init
 cells-init g c = record {

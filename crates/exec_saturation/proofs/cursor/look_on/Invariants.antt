@@ -8,7 +8,7 @@ use Rattle.exec_saturation.proofs.cursor.look_on.Given as goal
 
 abbrev pub invariant-cells : goal.invariant-cells
 invariant-cells g l = record {
-  known : AreSaturated (Saturation.Before l.came.at) l.all.q.now l.parts (read_from (cells_of l.pool l.all.extent.now)) (tuples_of l.all.table.now.entries);
+  known : AreSaturated (Saturation.Before l.came.at) l.planned.query l.parts (read_from (cells_of l.pool l.planned.extent)) (tuples_of l.table.entries);
   moved : ((l.came.at ≡ l.fn.from.at) × (l.came.left ≡ l.fn.from.left)) ⊎ IsBefore l.came.at l.fn.from.at.part l.fn.from.at.place l.fn.from.at.cell;
   reads : l.steps.reads + l.came.left ≤ l.fn.steps.reads + l.fn.from.left;
   writes : l.steps.writes ≡ l.fn.steps.writes;

@@ -7,9 +7,9 @@ use Rattle.exec_saturation.proofs.saturated.has_each.Goals as goal
 
 pub walk-preserved : goal.walk-preserved
 walk-preserved g c =
-    let q = c.args.part.now.q.now in
-    let plan = c.args.part.now.plan.now in
-    let read : Reading = read_from (cells_of c.args.pool.now c.args.part.now.extent.now) in
+    let q = c.args.at.now.q.now in
+    let plan = c.args.at.now.part.now in
+    let read : Reading = read_from (cells_of c.args.pool.now c.args.e.now) in
     let f : Found = as_found c.next.new.tuple.items c.in-Some._count in
     let left : List Found = left_of q.select plan read c.walk.probe in
     let others : List Found = left_of q.select plan read c.next.new.self in

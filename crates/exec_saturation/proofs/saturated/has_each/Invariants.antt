@@ -11,13 +11,13 @@ use Rattle.exec_saturation.proofs.saturated.has_each.Given as goal
 
 abbrev pub invariant-walk : goal.invariant-walk
 invariant-walk g l = record {
-  underway : IsUnderway l.part.plan.now l.probe;
-  listed : list_all (is_listed l.table) (left_of l.part.q.now.select l.part.plan.now (read_from (cells_of l.pool l.part.extent.now)) l.probe)
-      ≡ list_all (is_listed l.table) (found_beside l.part.q.now l.part.plan.now (read_from (cells_of l.pool l.part.extent.now)) l.at.pos (by_column l.at.row.items));
-  ones : All (λ (f : Found). f.count ≡ 1) (found_beside l.part.q.now l.part.plan.now (read_from (cells_of l.pool l.part.extent.now)) l.at.pos (by_column l.at.row.items));
-  reads : l.steps.reads + reads_left l.part.plan.now l.probe ≤ l.fn.steps.reads + (length l.part.plan.now.streams.items - 1) * share l.part.plan.now;
+  underway : IsUnderway l.at.part.now l.probe;
+  listed : list_all (is_listed l.table) (left_of l.at.q.now.select l.at.part.now (read_from (cells_of l.pool l.e)) l.probe)
+      ≡ list_all (is_listed l.table) (found_beside l.at.q.now l.at.part.now (read_from (cells_of l.pool l.e)) l.at.arriving (by_column l.at.row.now.items));
+  ones : All (λ (f : Found). f.count ≡ 1) (found_beside l.at.q.now l.at.part.now (read_from (cells_of l.pool l.e)) l.at.arriving (by_column l.at.row.now.items));
+  reads : l.steps.reads + reads_left l.at.part.now l.probe ≤ l.fn.steps.reads + (length l.at.part.now.streams.items - 1) * share l.at.part.now;
   writes : l.steps.writes ≡ l.fn.steps.writes;
 }
 
 abbrev pub decreases-walk : goal.decreases-walk
-decreases-walk g l = length (left_of l.part.q.now.select l.part.plan.now (read_from (cells_of l.pool l.part.extent.now)) l.probe)
+decreases-walk g l = length (left_of l.at.q.now.select l.at.part.now (read_from (cells_of l.pool l.e)) l.probe)

@@ -10,13 +10,13 @@ use Rattle.exec_saturation.proofs.saturated.is_saturated.Goals as goal
 
 pub returns-clause-value : goal.returns-clause-value
 returns-clause-value g c =
-    let q = c.args.part.now.q.now in
-    let plan = c.args.part.now.plan.now in
-    let place = c.args.cell.pos in
-    let read : Reading = read_from (cells_of c.args.pool.now c.args.part.now.extent.now) in
+    let q = c.args.at.now.q.now in
+    let plan = c.args.at.now.part.now in
+    let place = c.args.at.now.arriving in
+    let read : Reading = read_from (cells_of c.args.pool.now c.args.e.now) in
     let n = c.requires.ready.held.walked.plan.count in
     let fits : FitsKind (stream_at plan place).kind c.args.cell.held
     = subst (λ (d : Cell). FitsKind (stream_at plan place).kind d) (sym c.requires.held) (c.requires.ready.fitting place c.args.cell.i (omega (arith, c.requires.here, n)) c.requires.inside) in
     let law = saturated-by-row q plan c.select-select.ensures.limits c.requires.ready.held.walked read (tuples_of c.args.table.now.entries) place c.args.cell.i
-    (stream_at plan place).kind c.args.cell.held c.requires.held fits (c.is_empty.ensures.no c.if-is_empty.false) c.row_of_cell.result.items c.row_of_cell.ensures.columns in
+    (stream_at plan place).kind c.args.cell.held c.requires.held fits (c.is_empty.ensures.no c.if-is_empty.false) c.args.at.now.row.now.items c.requires.row in
     (λ t. law.0 (c.has_each.ensures.value.0 t), λ s. c.has_each.ensures.value.1 (law.1 s))

@@ -12,9 +12,9 @@ cell_of-number-requires-clause-here g c = omega (arith, c.requires.here, c.requi
 
 pub cell_of-number-requires-clause-laid : goal.cell_of-number-requires-clause-laid
 cell_of-number-requires-clause-laid g c =
-    laid-from c.args.q.now c.args.part.now c.requires.held.walked (64 * c.args.e.now.pages) c.requires.held.within c.requires.several c.args.at.now.pos c.requires.here
+    laid-from c.args.q.now c.args.part.now c.requires.held.walked (64 * c.args.e.now.pages) c.requires.held.within c.requires.several c.args.at.pos c.requires.here
 
 pub cell_of-number-requires-clause-inside : goal.cell_of-number-requires-clause-inside
 cell_of-number-requires-clause-inside g c =
-    subst (λ row. AreInside (dims_at c.args.part.now c.args.at.now.pos) (dim_values (dims_at c.args.part.now c.args.at.now.pos) (by_column row))) (sym c.as_slice-values.ensures.value)
-    (admitted-rows-have-places c.args.q.now c.args.part.now c.args.at.now.pos (by_column c.args.at.now.row.now.items) c.requires.admitted)
+    subst (λ row. AreInside (dims_at c.args.part.now c.args.at.pos) (dim_values (dims_at c.args.part.now c.args.at.pos) (by_column row))) (sym c.as_slice-values.ensures.value)
+    (admitted-rows-have-places c.args.q.now c.args.part.now c.args.at.pos (by_column c.args.row.now.items) c.requires.admitted)

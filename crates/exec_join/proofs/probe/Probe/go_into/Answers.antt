@@ -1,3 +1,4 @@
+use Rattle.sem_query.specs.Parts.{pairs}
 use Rattle.std.proofs.Common.{◌≡◌, ◌∙◌, ◌-◌, ◌*◌, ◌<◌, length, refl, ap, arith, List}
 use Rattle.sem_query.specs.Boxes.{box_size}
 use Rattle.sem_query.specs.declared.plan.Dim.{Dim}
@@ -8,7 +9,7 @@ use Rattle.exec_join.proofs.UnderwayLaws.{numbered}
 use Rattle.exec_join.proofs.probe.Probe.go_into.Goals as goal
 
 pub enter-requires-clause-sound : goal.enter-requires-clause-sound
-enter-requires-clause-sound c = numbered c.args.q.now c.args.part.now c.requires.walked c.args.self.now.pairs.now.items c.args.self.now.arriving c.args.self.now.row.now.items c.args.self.now.room.now.chosen.items c.requires.underway.placed.here c.requires.more
+enter-requires-clause-sound c = numbered c.args.q.now c.args.part.now c.requires.walked (pairs c.args.self.now.q.now) c.args.self.now.arriving c.args.self.now.row.now.items c.args.self.now.room.now.chosen.items c.requires.underway.placed.here c.requires.more
 
 pub enter-requires-clause-size : goal.enter-requires-clause-size
 enter-requires-clause-size c = c.requires.underway.size c.requires.going c.requires.more
@@ -48,7 +49,7 @@ returns-clause-reads c =
     let size = c.requires.underway.size c.requires.going c.requires.more in
     let inside : c.args.filled.next < box_size D = omega (arith, c.requires.below, size) in
     let place = c.requires.underway.placed.same in
-    let few = few-candidates p.pairs.now.items part p.arriving p.row.now.items known in
+    let few = few-candidates (pairs p.q.now) part p.arriving p.row.now.items known in
     let same = ap (tried_size part p.arriving) place in
     let more : length p.room.now.numbers.items < length part.streams.items = omega (arith, place, c.requires.more) in
     let one : read_at p.arriving (length p.room.now.numbers.items) ≡ 1 = read-beside p.arriving (length p.room.now.numbers.items) (λ h. c.requires.beside (place ∙ h)) in
@@ -67,7 +68,7 @@ returns-clause-turns c =
     let size = c.requires.underway.size c.requires.going c.requires.more in
     let inside : c.args.filled.next < box_size D = omega (arith, c.requires.below, size) in
     let place = c.requires.underway.placed.same in
-    let few = few-candidates p.pairs.now.items part p.arriving p.row.now.items known in
+    let few = few-candidates (pairs p.q.now) part p.arriving p.row.now.items known in
     let same = ap (tried_size part p.arriving) place in
     let more : length p.room.now.numbers.items < length part.streams.items = omega (arith, place, c.requires.more) in
     let entered = entered-cost (turns part) (length part.streams.items) _ c.enter.new.self _ _ c.enter.ensures.entered c.requires.going more (omega (arith, inside, few, same)) in

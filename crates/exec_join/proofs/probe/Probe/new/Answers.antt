@@ -1,21 +1,22 @@
-use Rattle.std.proofs.Common.{All, subst, ◌≡◌, ◌∙◌, ◌≤◌, length, false, arith, ap, sym}
+use Rattle.std.proofs.Common.{refl, All, subst, ◌≡◌, ◌∙◌, ◌≤◌, length, false, arith, ap, sym}
 use Rattle.exec_join.specs.Choosing.{setting}
 use Rattle.exec_join.specs.Walk.{left}
 use Rattle.exec_join.specs.Costs.{cost_left, reads, walk_reads}
 use Rattle.exec_join.proofs.StartLaws.{left-start, reads-start, reads-few}
 use Rattle.sem_query.specs.Meaning.{by_column}
+use Rattle.sem_query.specs.Parts.{pairs}
 use Rattle.sem_query.specs.Combinations.{Found}
 use Rattle.exec_join.proofs.OneEach.{counts-are-one}
 use Rattle.exec_join.proofs.UnderwayLaws.{start-placed}
 use Rattle.exec_join.proofs.probe.Probe.new.Goals as goal
 
 pub open-requires-clause-placed : goal.open-requires-clause-placed
-open-requires-clause-placed c = start-placed c.args.q.now c.args.part.now _ (omega (arith, c.requires.here, c.requires.walked.plan.count)) c.clear.ensures c.clear-2.ensures c.clear-3.ensures c.pairs.ensures c.requires.prepared (omega arith)
+open-requires-clause-placed c = start-placed c.args.q.now c.args.part.now _ (omega (arith, c.requires.here, c.requires.walked.plan.count)) c.clear.ensures c.clear-2.ensures c.clear-3.ensures refl c.requires.prepared (omega arith)
 
 pub returns-clause-left : goal.returns-clause-left
 returns-clause-left c read =
     c.open.ensures.left c.args.q.now.select read
-    ∙ (λ k. left (setting (c.pairs.ensures k) c.args.q.now.select c.args.part.now c.args.pos c.args.row.now.items read) (c.clear.ensures k) (c.clear-2.ensures k) 0 false)
+    ∙ (λ k. left (setting (pairs c.args.q.now) c.args.q.now.select c.args.part.now c.args.pos c.args.row.now.items read) (c.clear.ensures k) (c.clear-2.ensures k) 0 false)
     ∙ left-start c.args.q.now c.args.part.now c.args.pos c.args.row.now.items read c.requires.walked (omega (arith, c.requires.here, c.requires.walked.plan.count))
 
 pub returns-clause-reads : goal.returns-clause-reads
@@ -48,4 +49,4 @@ returns-clause-whole c =
 pub returns-clause-starts : goal.returns-clause-starts
 returns-clause-starts c =
     let at = c.open.ensures.first c.clear.ensures in
-    record { pairs = at.pairs ∙ c.pairs.ensures; arriving = at.arriving; row = at.row; chosen = at.chosen; next = at.next; over = at.over }
+    record { list = at.list; arriving = at.arriving; row = at.row; chosen = at.chosen; next = at.next; over = at.over }

@@ -1,3 +1,4 @@
+use Rattle.sem_query.specs.Parts.{pairs}
 use Rattle.std.proofs.Common.{◌≡◌, ◌≢◌, ◌-◌, ◌*◌, ◌<◌, ◌≤◌, List, Option, length, sym, ap, ◌∙◌, subst, arith, ◌^◌, ℕ, take}
 use Rattle.sem_query.specs.Boxes.{box_size, values_at}
 use Rattle.sem_query.specs.declared.plan.Dim.{Dim}
@@ -39,8 +40,8 @@ returns-then-meets_links-clause-left g c =
     (let n = c.len.ensures.value in let v = ap length c.as_slice-streams.ensures.value in omega (arith, n, v, c.if-len-streams.true, c.turns.invariant.underway.placed.few)) in
     c.turns.invariant.left
     ∙ finish-some c.args.q.now.select part p c.retreat.new.self (c.retreat.ensures.left c.args.q.now.select) c.turns-test.true whole c.tuple_of.new.tuple.items c.product_of-count.result
-    ((λ k. meets_links (sym c.as_slice.ensures.value k) part p.arriving (sym c.as_slice-then-len-streams.ensures.value k) (sym c.as_slice-chosen.ensures.value k)) ∙ sym c.meets_links.ensures ∙ c.if-meets_links.true)
-    (c.tuple_of.ensures ∙ (λ k. tuple_of (c.as_slice.ensures.value k) (c.select.ensures.value k) part p.arriving (c.as_slice-then-len-streams.ensures.value k) (c.as_slice-chosen.ensures.value k)))
+    (ap (meets_links (pairs p.q.now) part p.arriving p.row.now.items) (sym c.as_slice-chosen.ensures.value) ∙ sym c.meets_links.ensures ∙ c.if-meets_links.true)
+    (c.tuple_of.ensures ∙ (λ k. tuple_of (pairs p.q.now) (c.select.ensures.value k) part p.arriving p.row.now.items (c.as_slice-chosen.ensures.value k)))
     (c.product_of-count.ensures ∙ ap product_of c.as_slice-chosen.ensures.value) (read_from (cells_of c.args.pool.now c.args.e.now))
 
 pub turns-preserved-then-len-streams : goal.turns-preserved-then-len-streams
@@ -53,7 +54,7 @@ turns-preserved-then-len-streams g c =
       underway = c.retreat-then-len-streams.ensures.underway;
       left = c.turns.invariant.left
           ∙ finish-none c.args.q.now.select part p c.retreat-then-len-streams.new.self (c.retreat-then-len-streams.ensures.left c.args.q.now.select) c.turns-test.true whole
-          ((λ k. meets_links (sym c.as_slice.ensures.value k) part p.arriving (sym c.as_slice-then-len-streams.ensures.value k) (sym c.as_slice-chosen.ensures.value k)) ∙ sym c.meets_links.ensures ∙ c.if-meets_links.false) (read_from (cells_of c.args.pool.now c.args.e.now));
+          (ap (meets_links (pairs p.q.now) part p.arriving p.row.now.items) (sym c.as_slice-chosen.ensures.value) ∙ sym c.meets_links.ensures ∙ c.if-meets_links.false) (read_from (cells_of c.args.pool.now c.args.e.now));
       reads = omega (arith, c.retreat-then-len-streams.ensures.reads, c.turns.invariant.reads);
       writes = c.turns.invariant.writes;
     }
@@ -84,7 +85,7 @@ first_occupied-requires-clause-within g c i l =
     let D : List Dim = dims_now part p in
     let size = c.turns.invariant.underway.size c.turns-test.true more in
     let laid : length known ≢ p.arriving → IsLaidOut (stream_at part (length known)) (64 * c.args.e.now.pages) = λ n. laid-beside c.args.q.now part c.requires.ready.held.walked (64 * c.args.e.now.pages) c.requires.ready.held.within p.arriving (length known) c.turns.invariant.underway.placed.here more n in
-    let w = line-within p.pairs.now.items part p.arriving p.row.now.items (64 * c.args.e.now.pages) known laid on.0 c.in-Some.line on.1 i (omega (arith, l, size)) in
+    let w = line-within (pairs p.q.now) part p.arriving p.row.now.items (64 * c.args.e.now.pages) known laid on.0 c.in-Some.line on.1 i (omega (arith, l, size)) in
     let r = (laid on.0).room in
     omega (arith, w, r)
 
@@ -101,12 +102,12 @@ go_into-requires-clause-light g c =
     let size = c.turns.invariant.underway.size c.turns-test.true more in
     let laid : length known ≢ p.arriving → IsLaidOut (stream_at part (length known)) (64 * c.args.e.now.pages) = λ n. laid-beside c.args.q.now part c.requires.ready.held.walked (64 * c.args.e.now.pages) c.requires.ready.held.within p.arriving (length known) c.turns.invariant.underway.placed.here more n in
     let contents = cells_of c.args.pool.now c.args.e.now in
-    let at = line-cell p.pairs.now.items part p.arriving p.row.now.items (64 * c.args.e.now.pages) known laid on.0 c.in-Some.line on.1 contents in
+    let at = line-cell (pairs p.q.now) part p.arriving p.row.now.items (64 * c.args.e.now.pages) known laid on.0 c.in-Some.line on.1 contents in
     let found = c.in-Some-first_occupied.ensures.reads.0 in
     let inside : c.in-Some-first_occupied.filled.next < box_size D = omega (arith, found.below, size) in
     let i = c.in-Some-first_occupied.filled.next in
     let w = light-cell part p.arriving (read_from contents) (length known) (values_at D i) c.requires.ready.fitting more (64 * c.args.e.now.pages) laid
-    (inside-narrowed p.pairs.now.items part p.arriving p.row.now.items (64 * c.args.e.now.pages) known laid (values_at D i) (values-inside D i inside)) in
+    (inside-narrowed (pairs p.q.now) part p.arriving p.row.now.items (64 * c.args.e.now.pages) known laid (values_at D i) (values-inside D i inside)) in
     subst (λ x. rows_in x ≤ limit p.arriving (length known)) (at i inside ∙ found.cell) w
 
 pub turns-preserved-in-Some-first_occupied : goal.turns-preserved-in-Some-first_occupied
@@ -122,7 +123,7 @@ turns-preserved-in-Some-first_occupied g c =
     let size = c.turns.invariant.underway.size c.turns-test.true more in
     let laid : length known ≢ p.arriving → IsLaidOut (stream_at part (length known)) (64 * c.args.e.now.pages) = λ n. laid-beside c.args.q.now part c.requires.ready.held.walked (64 * c.args.e.now.pages) c.requires.ready.held.within p.arriving (length known) c.turns.invariant.underway.placed.here more n in
     let contents = cells_of c.args.pool.now c.args.e.now in
-    let at = line-cell p.pairs.now.items part p.arriving p.row.now.items (64 * c.args.e.now.pages) known laid on.0 c.in-Some.line on.1 contents in
+    let at = line-cell (pairs p.q.now) part p.arriving p.row.now.items (64 * c.args.e.now.pages) known laid on.0 c.in-Some.line on.1 contents in
     let found = c.in-Some-first_occupied.ensures.reads.0 in
     let inside : c.in-Some-first_occupied.filled.next < box_size D = omega (arith, found.below, size) in
     let past = c.go_into.ensures.left (read_from contents) (record {
@@ -152,11 +153,11 @@ turns-preserved-in-None-first_occupied g c =
     let size = c.turns.invariant.underway.size c.turns-test.true more in
     let laid : length known ≢ p.arriving → IsLaidOut (stream_at part (length known)) (64 * c.args.e.now.pages) = λ n. laid-beside c.args.q.now part c.requires.ready.held.walked (64 * c.args.e.now.pages) c.requires.ready.held.within p.arriving (length known) c.turns.invariant.underway.placed.here more n in
     let contents = cells_of c.args.pool.now c.args.e.now in
-    let at = line-cell p.pairs.now.items part p.arriving p.row.now.items (64 * c.args.e.now.pages) known laid on.0 c.in-Some.line on.1 contents in
+    let at = line-cell (pairs p.q.now) part p.arriving p.row.now.items (64 * c.args.e.now.pages) known laid on.0 c.in-Some.line on.1 contents in
     let empty = c.in-None-first_occupied.ensures.reads.0 in
-    let passed : Probe = record { arriving = p.arriving; row = p.row; pairs = p.pairs; prepared = p.prepared; room = p.room; level = p.level; next = p.size; size = p.size; over = p.over } in
+    let passed : Probe = record { arriving = p.arriving; row = p.row; q = p.q; prepared = p.prepared; room = p.room; level = p.level; next = p.size; size = p.size; over = p.over } in
     let place = c.turns.invariant.underway.placed.same in
-    let few = few-candidates p.pairs.now.items part p.arriving p.row.now.items known in
+    let few = few-candidates (pairs p.q.now) part p.arriving p.row.now.items known in
     let same = ap (tried_size part p.arriving) place in
     let entered : length p.room.now.numbers.items < length part.streams.items = omega (arith, place, more) in
     let one : read_at p.arriving (length p.room.now.numbers.items) ≡ 1 = read-beside p.arriving (length p.room.now.numbers.items) (λ h. on.0 (place ∙ h)) in
@@ -185,7 +186,7 @@ turns-smaller-in-None-first_occupied g c =
     let D : List Dim = dims_now part p in
     let size = c.turns.invariant.underway.size c.turns-test.true more in
     let place = c.turns.invariant.underway.placed.same in
-    let few = few-candidates p.pairs.now.items part p.arriving p.row.now.items known in
+    let few = few-candidates (pairs p.q.now) part p.arriving p.row.now.items known in
     let same = ap (tried_size part p.arriving) place in
     let more : length p.room.now.numbers.items < length part.streams.items = omega (arith, place, more) in
     let one : read_at p.arriving (length p.room.now.numbers.items) ≡ 1 = read-beside p.arriving (length p.room.now.numbers.items) (λ h. on.0 (place ∙ h)) in

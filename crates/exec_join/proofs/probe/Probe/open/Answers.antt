@@ -1,6 +1,7 @@
+use Rattle.sem_query.specs.Parts.{pairs}
 use Rattle.std.proofs.Common.{◌∙◌, ℤ, Bor, length, ap, arith}
 use Rattle.arrayvec.specs.ArrayVec.{ArrayVec}
-use Rattle.sem_query.specs.declared.part.Pair.{Pair}
+use Rattle.sem_query.specs.Query.{QueryValue}
 use Rattle.exec_join.specs.Costs.{reads, turns}
 use Rattle.exec_join.proofs.UnderwayLaws.{laid-here, placed-underway, opened-underway, opened-left, opened-cost}
 use Rattle.exec_join.proofs.probe.Probe.open.Goals as goal
@@ -34,7 +35,7 @@ pub returns-then-len-as_slice-clause-first : goal.returns-then-len-as_slice-clau
 returns-then-len-as_slice-clause-first c empty =
     let same = c.pass_own.ensures.same in
     record {
-      pairs = ap (λ (ps : Bor (ArrayVec Pair)). ps.now.items) same.pairs;
+      list = ap (λ (q : Bor QueryValue). pairs q.now) same.query;
       arriving = same.arriving;
       row = ap (λ (r : Bor (ArrayVec ℤ)). r.now.items) same.row;
       chosen = c.pass_own.ensures.first empty;
@@ -47,7 +48,7 @@ returns-clause-first c empty =
     let same = c.pass_own.ensures.same in
     let opened = c.look.ensures in
     record {
-      pairs = ap (λ (ps : Bor (ArrayVec Pair)). ps.now.items) (opened.pairs ∙ same.pairs);
+      list = ap (λ (q : Bor QueryValue). pairs q.now) (opened.query ∙ same.query);
       arriving = opened.arriving ∙ same.arriving;
       row = ap (λ (r : Bor (ArrayVec ℤ)). r.now.items) (opened.row ∙ same.row);
       chosen = opened.chosen ∙ c.pass_own.ensures.first empty;

@@ -1,3 +1,4 @@
+use Rattle.sem_query.specs.Parts.{pairs}
 use Rattle.std.proofs.Common.{◌≡◌, ◌∙◌, true, sym, arith, rules}
 use Rattle.exec_join.specs.Repeats.{IsTold}
 use Rattle.exec_join.specs.Remaining.{left_of}
@@ -16,7 +17,7 @@ pub levels-preserved : goal.levels-preserved
 levels-preserved c =
     let p = c.levels.self in
     let distinct : c.args.q.now.distinct ≡ true = sym c.distinct.ensures ∙ c.if-not-distinct.false in
-    let told : IsTold p.pairs.now.items c.args.q.now.select c.args.part.now p.arriving p.row.now.items p.room.now.chosen.items c.args.tuple.now.items = search rules in
+    let told : IsTold (pairs p.q.now) c.args.q.now.select c.args.part.now p.arriving p.row.now.items p.room.now.chosen.items c.args.tuple.now.items = search rules in
     record {
       underway = c.retreat.ensures.underway;
       left = λ read.

@@ -1,3 +1,4 @@
+use Rattle.sem_query.specs.Parts.{pairs}
 use Rattle.std.proofs.Common.{◌≤◌, ◌∙◌, true, length, sym, ap, refl, arith}
 use Rattle.std.specs.Option.{unwrap_or}
 use Rattle.std.proofs.lemmas.List.{nil_from_length}
@@ -16,10 +17,10 @@ levels-preserved c =
     let here = c.levels.invariant.placed in
     let going = c.levels.invariant.going in
     let few : length p.room.now.numbers.items ≤ length part.streams.items = omega (arith, here.same, here.few) in
-    let r : Probe = record { arriving = p.arriving; row = p.row; pairs = p.pairs; prepared = p.prepared; room = record { ref_ptr = p.room.ref_ptr; ghost_name = p.room.ghost_name; now = record { chosen = c.drop_last.new.self; numbers = c.pop.new.self; sizes = c.pop-in-Some.new.self; dims = p.room.now.dims; line = p.room.now.line } }; level = p.level; next = c.in-Some.next; size = c.unwrap_or-self.result; over = p.over } in
+    let r : Probe = record { arriving = p.arriving; row = p.row; q = p.q; prepared = p.prepared; room = record { ref_ptr = p.room.ref_ptr; ghost_name = p.room.ghost_name; now = record { chosen = c.drop_last.new.self; numbers = c.pop.new.self; sizes = c.pop-in-Some.new.self; dims = p.room.now.dims; line = p.room.now.line } }; level = p.level; next = c.in-Some.next; size = c.unwrap_or-self.result; over = p.over } in
     let last = last-of p.room.now.chosen.items c.drop_last.new.self.items p.room.now.numbers.items c.pop.new.self.items c.in-Some.next here.same c.in-Some.ensures.items c.drop_last.ensures in
     let size = last-some p.room.now.sizes.items c.pop-in-Some.new.self.items p.room.now.numbers.items c.pop.new.self.items c.pop-in-Some.result c.in-Some.next
-    (sizes-length p.pairs.now.items part p.arriving p.row.now.items _ p.room.now.chosen.items p.room.now.sizes.items here.sizes ∙ here.same) c.in-Some.ensures.items c.pop-in-Some.ensures.items c.pop-in-Some.ensures.rest in
+    (sizes-length (pairs p.q.now) part p.arriving p.row.now.items _ p.room.now.chosen.items p.room.now.sizes.items here.sizes ∙ here.same) c.in-Some.ensures.items c.pop-in-Some.ensures.items c.pop-in-Some.ensures.rest in
     let back : WentBack p r = popped last.0 c.in-Some.next size.0 last.1 c.in-Some.ensures.items refl refl refl refl refl refl size.1 (c.unwrap_or-self.ensures ∙ ap (λ o. unwrap_or o 0) size.2) (record { dims = refl; line = refl; level = refl }) in
     let size_now = back-size part p r back here going in
     let shorter = back-shorter part p r back here going in
@@ -38,10 +39,10 @@ returns-then-self-len-clause-underway c =
     let here = c.levels.invariant.placed in
     let going = c.levels.invariant.going in
     let few : length p.room.now.numbers.items ≤ length part.streams.items = omega (arith, here.same, here.few) in
-    let r : Probe = record { arriving = p.arriving; row = p.row; pairs = p.pairs; prepared = p.prepared; room = record { ref_ptr = p.room.ref_ptr; ghost_name = p.room.ghost_name; now = record { chosen = c.drop_last.new.self; numbers = c.pop.new.self; sizes = c.pop-in-Some.new.self; dims = p.room.now.dims; line = p.room.now.line } }; level = p.level; next = c.in-Some.next; size = c.unwrap_or-self.result; over = p.over } in
+    let r : Probe = record { arriving = p.arriving; row = p.row; q = p.q; prepared = p.prepared; room = record { ref_ptr = p.room.ref_ptr; ghost_name = p.room.ghost_name; now = record { chosen = c.drop_last.new.self; numbers = c.pop.new.self; sizes = c.pop-in-Some.new.self; dims = p.room.now.dims; line = p.room.now.line } }; level = p.level; next = c.in-Some.next; size = c.unwrap_or-self.result; over = p.over } in
     let last = last-of p.room.now.chosen.items c.drop_last.new.self.items p.room.now.numbers.items c.pop.new.self.items c.in-Some.next here.same c.in-Some.ensures.items c.drop_last.ensures in
     let size = last-some p.room.now.sizes.items c.pop-in-Some.new.self.items p.room.now.numbers.items c.pop.new.self.items c.pop-in-Some.result c.in-Some.next
-    (sizes-length p.pairs.now.items part p.arriving p.row.now.items _ p.room.now.chosen.items p.room.now.sizes.items here.sizes ∙ here.same) c.in-Some.ensures.items c.pop-in-Some.ensures.items c.pop-in-Some.ensures.rest in
+    (sizes-length (pairs p.q.now) part p.arriving p.row.now.items _ p.room.now.chosen.items p.room.now.sizes.items here.sizes ∙ here.same) c.in-Some.ensures.items c.pop-in-Some.ensures.items c.pop-in-Some.ensures.rest in
     let back : WentBack p r = popped last.0 c.in-Some.next size.0 last.1 c.in-Some.ensures.items refl refl refl refl refl refl size.1 (c.unwrap_or-self.ensures ∙ ap (λ o. unwrap_or o 0) size.2) (record { dims = refl; line = refl; level = refl }) in
     let size_now = back-size part p r back here going in
     let shorter = back-shorter part p r back here going in
@@ -54,10 +55,10 @@ returns-then-self-len-clause-left c select read =
     let here = c.levels.invariant.placed in
     let going = c.levels.invariant.going in
     let few : length p.room.now.numbers.items ≤ length part.streams.items = omega (arith, here.same, here.few) in
-    let r : Probe = record { arriving = p.arriving; row = p.row; pairs = p.pairs; prepared = p.prepared; room = record { ref_ptr = p.room.ref_ptr; ghost_name = p.room.ghost_name; now = record { chosen = c.drop_last.new.self; numbers = c.pop.new.self; sizes = c.pop-in-Some.new.self; dims = p.room.now.dims; line = p.room.now.line } }; level = p.level; next = c.in-Some.next; size = c.unwrap_or-self.result; over = p.over } in
+    let r : Probe = record { arriving = p.arriving; row = p.row; q = p.q; prepared = p.prepared; room = record { ref_ptr = p.room.ref_ptr; ghost_name = p.room.ghost_name; now = record { chosen = c.drop_last.new.self; numbers = c.pop.new.self; sizes = c.pop-in-Some.new.self; dims = p.room.now.dims; line = p.room.now.line } }; level = p.level; next = c.in-Some.next; size = c.unwrap_or-self.result; over = p.over } in
     let last = last-of p.room.now.chosen.items c.drop_last.new.self.items p.room.now.numbers.items c.pop.new.self.items c.in-Some.next here.same c.in-Some.ensures.items c.drop_last.ensures in
     let size = last-some p.room.now.sizes.items c.pop-in-Some.new.self.items p.room.now.numbers.items c.pop.new.self.items c.pop-in-Some.result c.in-Some.next
-    (sizes-length p.pairs.now.items part p.arriving p.row.now.items _ p.room.now.chosen.items p.room.now.sizes.items here.sizes ∙ here.same) c.in-Some.ensures.items c.pop-in-Some.ensures.items c.pop-in-Some.ensures.rest in
+    (sizes-length (pairs p.q.now) part p.arriving p.row.now.items _ p.room.now.chosen.items p.room.now.sizes.items here.sizes ∙ here.same) c.in-Some.ensures.items c.pop-in-Some.ensures.items c.pop-in-Some.ensures.rest in
     let back : WentBack p r = popped last.0 c.in-Some.next size.0 last.1 c.in-Some.ensures.items refl refl refl refl refl refl size.1 (c.unwrap_or-self.ensures ∙ ap (λ o. unwrap_or o 0) size.2) (record { dims = refl; line = refl; level = refl }) in
     outer-of-back select part read p r back going here ∙ c.levels.invariant.left select read
 
@@ -68,10 +69,10 @@ returns-then-self-len-clause-reads c =
     let here = c.levels.invariant.placed in
     let going = c.levels.invariant.going in
     let few : length p.room.now.numbers.items ≤ length part.streams.items = omega (arith, here.same, here.few) in
-    let r : Probe = record { arriving = p.arriving; row = p.row; pairs = p.pairs; prepared = p.prepared; room = record { ref_ptr = p.room.ref_ptr; ghost_name = p.room.ghost_name; now = record { chosen = c.drop_last.new.self; numbers = c.pop.new.self; sizes = c.pop-in-Some.new.self; dims = p.room.now.dims; line = p.room.now.line } }; level = p.level; next = c.in-Some.next; size = c.unwrap_or-self.result; over = p.over } in
+    let r : Probe = record { arriving = p.arriving; row = p.row; q = p.q; prepared = p.prepared; room = record { ref_ptr = p.room.ref_ptr; ghost_name = p.room.ghost_name; now = record { chosen = c.drop_last.new.self; numbers = c.pop.new.self; sizes = c.pop-in-Some.new.self; dims = p.room.now.dims; line = p.room.now.line } }; level = p.level; next = c.in-Some.next; size = c.unwrap_or-self.result; over = p.over } in
     let last = last-of p.room.now.chosen.items c.drop_last.new.self.items p.room.now.numbers.items c.pop.new.self.items c.in-Some.next here.same c.in-Some.ensures.items c.drop_last.ensures in
     let size = last-some p.room.now.sizes.items c.pop-in-Some.new.self.items p.room.now.numbers.items c.pop.new.self.items c.pop-in-Some.result c.in-Some.next
-    (sizes-length p.pairs.now.items part p.arriving p.row.now.items _ p.room.now.chosen.items p.room.now.sizes.items here.sizes ∙ here.same) c.in-Some.ensures.items c.pop-in-Some.ensures.items c.pop-in-Some.ensures.rest in
+    (sizes-length (pairs p.q.now) part p.arriving p.row.now.items _ p.room.now.chosen.items p.room.now.sizes.items here.sizes ∙ here.same) c.in-Some.ensures.items c.pop-in-Some.ensures.items c.pop-in-Some.ensures.rest in
     let back : WentBack p r = popped last.0 c.in-Some.next size.0 last.1 c.in-Some.ensures.items refl refl refl refl refl refl size.1 (c.unwrap_or-self.ensures ∙ ap (λ o. unwrap_or o 0) size.2) (record { dims = refl; line = refl; level = refl }) in
     let paid = cost-of-back (reads part) (length part.streams.items) p r back going few in
     let m = c.levels.invariant.reads in omega (arith, paid, m)
@@ -83,10 +84,10 @@ returns-then-self-len-clause-turns c =
     let here = c.levels.invariant.placed in
     let going = c.levels.invariant.going in
     let few : length p.room.now.numbers.items ≤ length part.streams.items = omega (arith, here.same, here.few) in
-    let r : Probe = record { arriving = p.arriving; row = p.row; pairs = p.pairs; prepared = p.prepared; room = record { ref_ptr = p.room.ref_ptr; ghost_name = p.room.ghost_name; now = record { chosen = c.drop_last.new.self; numbers = c.pop.new.self; sizes = c.pop-in-Some.new.self; dims = p.room.now.dims; line = p.room.now.line } }; level = p.level; next = c.in-Some.next; size = c.unwrap_or-self.result; over = p.over } in
+    let r : Probe = record { arriving = p.arriving; row = p.row; q = p.q; prepared = p.prepared; room = record { ref_ptr = p.room.ref_ptr; ghost_name = p.room.ghost_name; now = record { chosen = c.drop_last.new.self; numbers = c.pop.new.self; sizes = c.pop-in-Some.new.self; dims = p.room.now.dims; line = p.room.now.line } }; level = p.level; next = c.in-Some.next; size = c.unwrap_or-self.result; over = p.over } in
     let last = last-of p.room.now.chosen.items c.drop_last.new.self.items p.room.now.numbers.items c.pop.new.self.items c.in-Some.next here.same c.in-Some.ensures.items c.drop_last.ensures in
     let size = last-some p.room.now.sizes.items c.pop-in-Some.new.self.items p.room.now.numbers.items c.pop.new.self.items c.pop-in-Some.result c.in-Some.next
-    (sizes-length p.pairs.now.items part p.arriving p.row.now.items _ p.room.now.chosen.items p.room.now.sizes.items here.sizes ∙ here.same) c.in-Some.ensures.items c.pop-in-Some.ensures.items c.pop-in-Some.ensures.rest in
+    (sizes-length (pairs p.q.now) part p.arriving p.row.now.items _ p.room.now.chosen.items p.room.now.sizes.items here.sizes ∙ here.same) c.in-Some.ensures.items c.pop-in-Some.ensures.items c.pop-in-Some.ensures.rest in
     let back : WentBack p r = popped last.0 c.in-Some.next size.0 last.1 c.in-Some.ensures.items refl refl refl refl refl refl size.1 (c.unwrap_or-self.ensures ∙ ap (λ o. unwrap_or o 0) size.2) (record { dims = refl; line = refl; level = refl }) in
     let paid = cost-of-back (turns part) (length part.streams.items) p r back going few in
     let m = c.levels.invariant.turns in omega (arith, paid, m)
@@ -98,10 +99,10 @@ returns-in-Some-clause-underway c =
     let here = c.levels.invariant.placed in
     let going = c.levels.invariant.going in
     let few : length p.room.now.numbers.items ≤ length part.streams.items = omega (arith, here.same, here.few) in
-    let r : Probe = record { arriving = p.arriving; row = p.row; pairs = p.pairs; prepared = p.prepared; room = record { ref_ptr = p.room.ref_ptr; ghost_name = p.room.ghost_name; now = record { chosen = c.drop_last.new.self; numbers = c.pop.new.self; sizes = c.pop-in-Some.new.self; dims = p.room.now.dims; line = p.room.now.line } }; level = p.level; next = c.in-Some.next; size = c.unwrap_or-self.result; over = p.over } in
+    let r : Probe = record { arriving = p.arriving; row = p.row; q = p.q; prepared = p.prepared; room = record { ref_ptr = p.room.ref_ptr; ghost_name = p.room.ghost_name; now = record { chosen = c.drop_last.new.self; numbers = c.pop.new.self; sizes = c.pop-in-Some.new.self; dims = p.room.now.dims; line = p.room.now.line } }; level = p.level; next = c.in-Some.next; size = c.unwrap_or-self.result; over = p.over } in
     let last = last-of p.room.now.chosen.items c.drop_last.new.self.items p.room.now.numbers.items c.pop.new.self.items c.in-Some.next here.same c.in-Some.ensures.items c.drop_last.ensures in
     let size = last-some p.room.now.sizes.items c.pop-in-Some.new.self.items p.room.now.numbers.items c.pop.new.self.items c.pop-in-Some.result c.in-Some.next
-    (sizes-length p.pairs.now.items part p.arriving p.row.now.items _ p.room.now.chosen.items p.room.now.sizes.items here.sizes ∙ here.same) c.in-Some.ensures.items c.pop-in-Some.ensures.items c.pop-in-Some.ensures.rest in
+    (sizes-length (pairs p.q.now) part p.arriving p.row.now.items _ p.room.now.chosen.items p.room.now.sizes.items here.sizes ∙ here.same) c.in-Some.ensures.items c.pop-in-Some.ensures.items c.pop-in-Some.ensures.rest in
     let back : WentBack p r = popped last.0 c.in-Some.next size.0 last.1 c.in-Some.ensures.items refl refl refl refl refl refl size.1 (c.unwrap_or-self.ensures ∙ ap (λ o. unwrap_or o 0) size.2) (record { dims = refl; line = refl; level = refl }) in
     opened-underway part r c.look.new.self c.look.ensures (back-placed part p r back here)
 
@@ -112,10 +113,10 @@ returns-in-Some-clause-left c select read =
     let here = c.levels.invariant.placed in
     let going = c.levels.invariant.going in
     let few : length p.room.now.numbers.items ≤ length part.streams.items = omega (arith, here.same, here.few) in
-    let r : Probe = record { arriving = p.arriving; row = p.row; pairs = p.pairs; prepared = p.prepared; room = record { ref_ptr = p.room.ref_ptr; ghost_name = p.room.ghost_name; now = record { chosen = c.drop_last.new.self; numbers = c.pop.new.self; sizes = c.pop-in-Some.new.self; dims = p.room.now.dims; line = p.room.now.line } }; level = p.level; next = c.in-Some.next; size = c.unwrap_or-self.result; over = p.over } in
+    let r : Probe = record { arriving = p.arriving; row = p.row; q = p.q; prepared = p.prepared; room = record { ref_ptr = p.room.ref_ptr; ghost_name = p.room.ghost_name; now = record { chosen = c.drop_last.new.self; numbers = c.pop.new.self; sizes = c.pop-in-Some.new.self; dims = p.room.now.dims; line = p.room.now.line } }; level = p.level; next = c.in-Some.next; size = c.unwrap_or-self.result; over = p.over } in
     let last = last-of p.room.now.chosen.items c.drop_last.new.self.items p.room.now.numbers.items c.pop.new.self.items c.in-Some.next here.same c.in-Some.ensures.items c.drop_last.ensures in
     let size = last-some p.room.now.sizes.items c.pop-in-Some.new.self.items p.room.now.numbers.items c.pop.new.self.items c.pop-in-Some.result c.in-Some.next
-    (sizes-length p.pairs.now.items part p.arriving p.row.now.items _ p.room.now.chosen.items p.room.now.sizes.items here.sizes ∙ here.same) c.in-Some.ensures.items c.pop-in-Some.ensures.items c.pop-in-Some.ensures.rest in
+    (sizes-length (pairs p.q.now) part p.arriving p.row.now.items _ p.room.now.chosen.items p.room.now.sizes.items here.sizes ∙ here.same) c.in-Some.ensures.items c.pop-in-Some.ensures.items c.pop-in-Some.ensures.rest in
     let back : WentBack p r = popped last.0 c.in-Some.next size.0 last.1 c.in-Some.ensures.items refl refl refl refl refl refl size.1 (c.unwrap_or-self.ensures ∙ ap (λ o. unwrap_or o 0) size.2) (record { dims = refl; line = refl; level = refl }) in
     opened-left part r c.look.new.self c.look.ensures select read ∙ outer-of-back select part read p r back going here ∙ c.levels.invariant.left select read
 
@@ -126,10 +127,10 @@ returns-in-Some-clause-reads c =
     let here = c.levels.invariant.placed in
     let going = c.levels.invariant.going in
     let few : length p.room.now.numbers.items ≤ length part.streams.items = omega (arith, here.same, here.few) in
-    let r : Probe = record { arriving = p.arriving; row = p.row; pairs = p.pairs; prepared = p.prepared; room = record { ref_ptr = p.room.ref_ptr; ghost_name = p.room.ghost_name; now = record { chosen = c.drop_last.new.self; numbers = c.pop.new.self; sizes = c.pop-in-Some.new.self; dims = p.room.now.dims; line = p.room.now.line } }; level = p.level; next = c.in-Some.next; size = c.unwrap_or-self.result; over = p.over } in
+    let r : Probe = record { arriving = p.arriving; row = p.row; q = p.q; prepared = p.prepared; room = record { ref_ptr = p.room.ref_ptr; ghost_name = p.room.ghost_name; now = record { chosen = c.drop_last.new.self; numbers = c.pop.new.self; sizes = c.pop-in-Some.new.self; dims = p.room.now.dims; line = p.room.now.line } }; level = p.level; next = c.in-Some.next; size = c.unwrap_or-self.result; over = p.over } in
     let last = last-of p.room.now.chosen.items c.drop_last.new.self.items p.room.now.numbers.items c.pop.new.self.items c.in-Some.next here.same c.in-Some.ensures.items c.drop_last.ensures in
     let size = last-some p.room.now.sizes.items c.pop-in-Some.new.self.items p.room.now.numbers.items c.pop.new.self.items c.pop-in-Some.result c.in-Some.next
-    (sizes-length p.pairs.now.items part p.arriving p.row.now.items _ p.room.now.chosen.items p.room.now.sizes.items here.sizes ∙ here.same) c.in-Some.ensures.items c.pop-in-Some.ensures.items c.pop-in-Some.ensures.rest in
+    (sizes-length (pairs p.q.now) part p.arriving p.row.now.items _ p.room.now.chosen.items p.room.now.sizes.items here.sizes ∙ here.same) c.in-Some.ensures.items c.pop-in-Some.ensures.items c.pop-in-Some.ensures.rest in
     let back : WentBack p r = popped last.0 c.in-Some.next size.0 last.1 c.in-Some.ensures.items refl refl refl refl refl refl size.1 (c.unwrap_or-self.ensures ∙ ap (λ o. unwrap_or o 0) size.2) (record { dims = refl; line = refl; level = refl }) in
     let paid = cost-of-back (reads part) (length part.streams.items) p r back going few in
     let e = opened-cost part r c.look.new.self c.look.ensures (reads part) in let m = c.levels.invariant.reads in omega (arith, e, paid, m)
@@ -141,10 +142,10 @@ returns-in-Some-clause-turns c =
     let here = c.levels.invariant.placed in
     let going = c.levels.invariant.going in
     let few : length p.room.now.numbers.items ≤ length part.streams.items = omega (arith, here.same, here.few) in
-    let r : Probe = record { arriving = p.arriving; row = p.row; pairs = p.pairs; prepared = p.prepared; room = record { ref_ptr = p.room.ref_ptr; ghost_name = p.room.ghost_name; now = record { chosen = c.drop_last.new.self; numbers = c.pop.new.self; sizes = c.pop-in-Some.new.self; dims = p.room.now.dims; line = p.room.now.line } }; level = p.level; next = c.in-Some.next; size = c.unwrap_or-self.result; over = p.over } in
+    let r : Probe = record { arriving = p.arriving; row = p.row; q = p.q; prepared = p.prepared; room = record { ref_ptr = p.room.ref_ptr; ghost_name = p.room.ghost_name; now = record { chosen = c.drop_last.new.self; numbers = c.pop.new.self; sizes = c.pop-in-Some.new.self; dims = p.room.now.dims; line = p.room.now.line } }; level = p.level; next = c.in-Some.next; size = c.unwrap_or-self.result; over = p.over } in
     let last = last-of p.room.now.chosen.items c.drop_last.new.self.items p.room.now.numbers.items c.pop.new.self.items c.in-Some.next here.same c.in-Some.ensures.items c.drop_last.ensures in
     let size = last-some p.room.now.sizes.items c.pop-in-Some.new.self.items p.room.now.numbers.items c.pop.new.self.items c.pop-in-Some.result c.in-Some.next
-    (sizes-length p.pairs.now.items part p.arriving p.row.now.items _ p.room.now.chosen.items p.room.now.sizes.items here.sizes ∙ here.same) c.in-Some.ensures.items c.pop-in-Some.ensures.items c.pop-in-Some.ensures.rest in
+    (sizes-length (pairs p.q.now) part p.arriving p.row.now.items _ p.room.now.chosen.items p.room.now.sizes.items here.sizes ∙ here.same) c.in-Some.ensures.items c.pop-in-Some.ensures.items c.pop-in-Some.ensures.rest in
     let back : WentBack p r = popped last.0 c.in-Some.next size.0 last.1 c.in-Some.ensures.items refl refl refl refl refl refl size.1 (c.unwrap_or-self.ensures ∙ ap (λ o. unwrap_or o 0) size.2) (record { dims = refl; line = refl; level = refl }) in
     let paid = cost-of-back (turns part) (length part.streams.items) p r back going few in
     let e = opened-cost part r c.look.new.self c.look.ensures (turns part) in let m = c.levels.invariant.turns in omega (arith, e, paid, m)
@@ -156,10 +157,10 @@ returns-clause-left c select read =
     let here = c.levels.invariant.placed in
     let going = c.levels.invariant.going in
     let few : length p.room.now.numbers.items ≤ length part.streams.items = omega (arith, here.same, here.few) in
-    let r : Probe = record { arriving = p.arriving; row = p.row; pairs = p.pairs; prepared = p.prepared; room = record { ref_ptr = p.room.ref_ptr; ghost_name = p.room.ghost_name; now = record { chosen = p.room.now.chosen; numbers = c.pop.new.self; sizes = p.room.now.sizes; dims = p.room.now.dims; line = p.room.now.line } }; level = p.level; next = p.next; size = p.size; over = true } in
+    let r : Probe = record { arriving = p.arriving; row = p.row; q = p.q; prepared = p.prepared; room = record { ref_ptr = p.room.ref_ptr; ghost_name = p.room.ghost_name; now = record { chosen = p.room.now.chosen; numbers = c.pop.new.self; sizes = p.room.now.sizes; dims = p.room.now.dims; line = p.room.now.line } }; level = p.level; next = p.next; size = p.size; over = true } in
     let none = none-left p.room.now.numbers.items c.pop.new.self.items c.in_default.ensures.items c.pop.ensures.rest in
     let empty = nil_from_length p.room.now.chosen.items (here.same ∙ ap length none) in
-    let bare = nil_from_length p.room.now.sizes.items (sizes-length p.pairs.now.items part p.arriving p.row.now.items _ p.room.now.chosen.items p.room.now.sizes.items here.sizes ∙ here.same ∙ ap length none) in
+    let bare = nil_from_length p.room.now.sizes.items (sizes-length (pairs p.q.now) part p.arriving p.row.now.items _ p.room.now.chosen.items p.room.now.sizes.items here.sizes ∙ here.same ∙ ap length none) in
     let back : WentBack p r = ended empty none empty (none-more p.room.now.numbers.items c.pop.new.self.items (ap length none) c.pop.ensures.rest) refl refl refl refl refl bare (record { dims = refl; line = refl; level = refl }) in
     outer-of-back select part read p r back going here ∙ c.levels.invariant.left select read
 
@@ -170,10 +171,10 @@ returns-clause-reads c =
     let here = c.levels.invariant.placed in
     let going = c.levels.invariant.going in
     let few : length p.room.now.numbers.items ≤ length part.streams.items = omega (arith, here.same, here.few) in
-    let r : Probe = record { arriving = p.arriving; row = p.row; pairs = p.pairs; prepared = p.prepared; room = record { ref_ptr = p.room.ref_ptr; ghost_name = p.room.ghost_name; now = record { chosen = p.room.now.chosen; numbers = c.pop.new.self; sizes = p.room.now.sizes; dims = p.room.now.dims; line = p.room.now.line } }; level = p.level; next = p.next; size = p.size; over = true } in
+    let r : Probe = record { arriving = p.arriving; row = p.row; q = p.q; prepared = p.prepared; room = record { ref_ptr = p.room.ref_ptr; ghost_name = p.room.ghost_name; now = record { chosen = p.room.now.chosen; numbers = c.pop.new.self; sizes = p.room.now.sizes; dims = p.room.now.dims; line = p.room.now.line } }; level = p.level; next = p.next; size = p.size; over = true } in
     let none = none-left p.room.now.numbers.items c.pop.new.self.items c.in_default.ensures.items c.pop.ensures.rest in
     let empty = nil_from_length p.room.now.chosen.items (here.same ∙ ap length none) in
-    let bare = nil_from_length p.room.now.sizes.items (sizes-length p.pairs.now.items part p.arriving p.row.now.items _ p.room.now.chosen.items p.room.now.sizes.items here.sizes ∙ here.same ∙ ap length none) in
+    let bare = nil_from_length p.room.now.sizes.items (sizes-length (pairs p.q.now) part p.arriving p.row.now.items _ p.room.now.chosen.items p.room.now.sizes.items here.sizes ∙ here.same ∙ ap length none) in
     let back : WentBack p r = ended empty none empty (none-more p.room.now.numbers.items c.pop.new.self.items (ap length none) c.pop.ensures.rest) refl refl refl refl refl bare (record { dims = refl; line = refl; level = refl }) in
     let paid = cost-of-back (reads part) (length part.streams.items) p r back going few in
     let m = c.levels.invariant.reads in omega (arith, paid, m)
@@ -185,10 +186,10 @@ returns-clause-turns c =
     let here = c.levels.invariant.placed in
     let going = c.levels.invariant.going in
     let few : length p.room.now.numbers.items ≤ length part.streams.items = omega (arith, here.same, here.few) in
-    let r : Probe = record { arriving = p.arriving; row = p.row; pairs = p.pairs; prepared = p.prepared; room = record { ref_ptr = p.room.ref_ptr; ghost_name = p.room.ghost_name; now = record { chosen = p.room.now.chosen; numbers = c.pop.new.self; sizes = p.room.now.sizes; dims = p.room.now.dims; line = p.room.now.line } }; level = p.level; next = p.next; size = p.size; over = true } in
+    let r : Probe = record { arriving = p.arriving; row = p.row; q = p.q; prepared = p.prepared; room = record { ref_ptr = p.room.ref_ptr; ghost_name = p.room.ghost_name; now = record { chosen = p.room.now.chosen; numbers = c.pop.new.self; sizes = p.room.now.sizes; dims = p.room.now.dims; line = p.room.now.line } }; level = p.level; next = p.next; size = p.size; over = true } in
     let none = none-left p.room.now.numbers.items c.pop.new.self.items c.in_default.ensures.items c.pop.ensures.rest in
     let empty = nil_from_length p.room.now.chosen.items (here.same ∙ ap length none) in
-    let bare = nil_from_length p.room.now.sizes.items (sizes-length p.pairs.now.items part p.arriving p.row.now.items _ p.room.now.chosen.items p.room.now.sizes.items here.sizes ∙ here.same ∙ ap length none) in
+    let bare = nil_from_length p.room.now.sizes.items (sizes-length (pairs p.q.now) part p.arriving p.row.now.items _ p.room.now.chosen.items p.room.now.sizes.items here.sizes ∙ here.same ∙ ap length none) in
     let back : WentBack p r = ended empty none empty (none-more p.room.now.numbers.items c.pop.new.self.items (ap length none) c.pop.ensures.rest) refl refl refl refl refl bare (record { dims = refl; line = refl; level = refl }) in
     let paid = cost-of-back (turns part) (length part.streams.items) p r back going few in
     let m = c.levels.invariant.turns in omega (arith, paid, m)

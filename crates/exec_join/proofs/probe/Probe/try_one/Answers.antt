@@ -1,3 +1,4 @@
+use Rattle.sem_query.specs.Parts.{pairs}
 use Rattle.std.proofs.Common.{◌≡◌, ◌+◌, ◌<◌, ◌≤◌, length, refl, sym, ap, ◌∙◌, subst, arith, ◌*◌, List}
 use Rattle.sem_query.specs.Boxes.{box_size, AreNumbered, AreInside, values_at}
 use Rattle.sem_query.specs.declared.plan.Dim.{Dim}
@@ -20,7 +21,7 @@ use Rattle.exec_join.proofs.probe.Probe.try_one.Goals as goal
 pub values_of-values-requires-clause-sound : goal.values_of-values-requires-clause-sound
 values_of-values-requires-clause-sound g c =
     let dims = c.requires.underway.dims c.requires.going c.requires.more c.requires.below in
-    subst AreNumbered (sym (c.as_slice.ensures.value ∙ dims)) (numbered c.args.q.now c.args.part.now c.requires.ready.held.walked c.args.self.now.pairs.now.items c.args.self.now.arriving c.args.self.now.row.now.items c.args.self.now.room.now.chosen.items c.requires.underway.placed.here c.requires.more)
+    subst AreNumbered (sym (c.as_slice.ensures.value ∙ dims)) (numbered c.args.q.now c.args.part.now c.requires.ready.held.walked (pairs c.args.self.now.q.now) c.args.self.now.arriving c.args.self.now.row.now.items c.args.self.now.room.now.chosen.items c.requires.underway.placed.here c.requires.more)
 
 pub values_of-values-requires-clause-size : goal.values_of-values-requires-clause-size
 values_of-values-requires-clause-size g c =
@@ -38,7 +39,7 @@ content-cell-requires-clause-inside g c =
     let below : c.args.self.now.next < box_size (dims_now c.args.part.now c.args.self.now) = omega (arith, size, c.requires.below) in
     let dims = c.requires.underway.dims c.requires.going c.requires.more c.requires.below in
     let values : c.values_of-values.result.items ≡ values_at (dims_now c.args.part.now c.args.self.now) c.args.self.now.next = c.values_of-values.ensures ∙ ap (λ (ds : List Dim). values_at ds c.args.self.now.next) (c.as_slice.ensures.value ∙ dims) in
-    let inside = inside-narrowed c.args.self.now.pairs.now.items c.args.part.now c.args.self.now.arriving c.args.self.now.row.now.items (64 * c.args.e.now.pages) c.args.self.now.room.now.chosen.items (λ n. laid-beside c.args.q.now c.args.part.now c.requires.ready.held.walked (64 * c.args.e.now.pages) c.requires.ready.held.within c.args.self.now.arriving (length c.args.self.now.room.now.chosen.items) c.requires.underway.placed.here c.requires.more n) (values_at (dims_now c.args.part.now c.args.self.now) c.args.self.now.next) (values-inside (dims_now c.args.part.now c.args.self.now) c.args.self.now.next below) in
+    let inside = inside-narrowed (pairs c.args.self.now.q.now) c.args.part.now c.args.self.now.arriving c.args.self.now.row.now.items (64 * c.args.e.now.pages) c.args.self.now.room.now.chosen.items (λ n. laid-beside c.args.q.now c.args.part.now c.requires.ready.held.walked (64 * c.args.e.now.pages) c.requires.ready.held.within c.args.self.now.arriving (length c.args.self.now.room.now.chosen.items) c.requires.underway.placed.here c.requires.more n) (values_at (dims_now c.args.part.now c.args.self.now) c.args.self.now.next) (values-inside (dims_now c.args.part.now c.args.self.now) c.args.self.now.next below) in
     subst (λ vs. AreInside (dims_in c.args.part.now c.args.self.now.arriving c.len.result) vs) (sym (c.as_slice-2.ensures.value ∙ values))
     (subst (λ n. AreInside (dims_in c.args.part.now c.args.self.now.arriving n) (values_at (dims_now c.args.part.now c.args.self.now) c.args.self.now.next)) (sym c.len.ensures.value) inside)
 
@@ -50,14 +51,14 @@ returns-then-is_empty-clause-left g c =
     let values : c.values_of-values.result.items ≡ values_at (dims_now c.args.part.now c.args.self.now) c.args.self.now.next = c.values_of-values.ensures ∙ ap (λ (ds : List Dim). values_at ds c.args.self.now.next) (c.as_slice.ensures.value ∙ dims) in
     let cand = candidate c.args.part.now c.args.self.now c.values_of-values.result.items below values in
     let cell : cell_in c.args.part.now (read_from (cells_of c.args.pool.now c.args.e.now)) c.args.self.now.arriving (length c.args.self.now.room.now.chosen.items) c.values_of-values.result.items ≡ c.content-cell.result = sym (c.content-cell.ensures.cell ∙ (λ k. cell_in c.args.part.now (read_from (cells_of c.args.pool.now c.args.e.now)) c.args.self.now.arriving (c.len.ensures.value k) (c.as_slice-2.ensures.value k))) in
-    (λ k. left (setting c.args.self.now.pairs.now.items c.args.q.now.select c.args.part.now c.args.self.now.arriving c.args.self.now.row.now.items (read_from (cells_of c.args.pool.now c.args.e.now))) c.args.self.now.room.now.chosen.items c.args.self.now.room.now.numbers.items (c.args.self.now.next + 1) (c.requires.going k))
-    ∙ sym (left-empty (setting c.args.self.now.pairs.now.items c.args.q.now.select c.args.part.now c.args.self.now.arriving c.args.self.now.row.now.items (read_from (cells_of c.args.pool.now c.args.e.now))) c.args.self.now.room.now.chosen.items c.args.self.now.room.now.numbers.items c.args.self.now.next c.values_of-values.result.items c.requires.more cand (cell ∙ c.is_empty.ensures.yes c.if-is_empty.true))
-    ∙ (λ k. left (setting c.args.self.now.pairs.now.items c.args.q.now.select c.args.part.now c.args.self.now.arriving c.args.self.now.row.now.items (read_from (cells_of c.args.pool.now c.args.e.now))) c.args.self.now.room.now.chosen.items c.args.self.now.room.now.numbers.items c.args.self.now.next (sym c.requires.going k))
+    (λ k. left (setting (pairs c.args.self.now.q.now) c.args.q.now.select c.args.part.now c.args.self.now.arriving c.args.self.now.row.now.items (read_from (cells_of c.args.pool.now c.args.e.now))) c.args.self.now.room.now.chosen.items c.args.self.now.room.now.numbers.items (c.args.self.now.next + 1) (c.requires.going k))
+    ∙ sym (left-empty (setting (pairs c.args.self.now.q.now) c.args.q.now.select c.args.part.now c.args.self.now.arriving c.args.self.now.row.now.items (read_from (cells_of c.args.pool.now c.args.e.now))) c.args.self.now.room.now.chosen.items c.args.self.now.room.now.numbers.items c.args.self.now.next c.values_of-values.result.items c.requires.more cand (cell ∙ c.is_empty.ensures.yes c.if-is_empty.true))
+    ∙ (λ k. left (setting (pairs c.args.self.now.q.now) c.args.q.now.select c.args.part.now c.args.self.now.arriving c.args.self.now.row.now.items (read_from (cells_of c.args.pool.now c.args.e.now))) c.args.self.now.room.now.chosen.items c.args.self.now.room.now.numbers.items c.args.self.now.next (sym c.requires.going k))
 
 pub returns-then-is_empty-clause-reads : goal.returns-then-is_empty-clause-reads
 returns-then-is_empty-clause-reads g c =
     let size = c.requires.underway.size c.requires.going c.requires.more in
-    let few = few-candidates c.args.self.now.pairs.now.items c.args.part.now c.args.self.now.arriving c.args.self.now.row.now.items c.args.self.now.room.now.chosen.items in
+    let few = few-candidates (pairs c.args.self.now.q.now) c.args.part.now c.args.self.now.arriving c.args.self.now.row.now.items c.args.self.now.room.now.chosen.items in
     let same = ap (tried_size c.args.part.now c.args.self.now.arriving) c.requires.underway.placed.same in
     let untried : c.args.self.now.next < tried_size c.args.part.now c.args.self.now.arriving (length c.args.self.now.room.now.numbers.items) = omega (arith, size, c.requires.below, few, same) in
     let more : length c.args.self.now.room.now.numbers.items < length c.args.part.now.streams.items = omega (arith, c.requires.underway.placed.same, c.requires.more) in
@@ -66,7 +67,7 @@ returns-then-is_empty-clause-reads g c =
 pub returns-then-is_empty-clause-turns : goal.returns-then-is_empty-clause-turns
 returns-then-is_empty-clause-turns g c =
     let size = c.requires.underway.size c.requires.going c.requires.more in
-    let few = few-candidates c.args.self.now.pairs.now.items c.args.part.now c.args.self.now.arriving c.args.self.now.row.now.items c.args.self.now.room.now.chosen.items in
+    let few = few-candidates (pairs c.args.self.now.q.now) c.args.part.now c.args.self.now.arriving c.args.self.now.row.now.items c.args.self.now.room.now.chosen.items in
     let same = ap (tried_size c.args.part.now c.args.self.now.arriving) c.requires.underway.placed.same in
     let untried : c.args.self.now.next < tried_size c.args.part.now c.args.self.now.arriving (length c.args.self.now.room.now.numbers.items) = omega (arith, size, c.requires.below, few, same) in
     let more : length c.args.self.now.room.now.numbers.items < length c.args.part.now.streams.items = omega (arith, c.requires.underway.placed.same, c.requires.more) in
@@ -79,7 +80,7 @@ enter-requires-clause-light g c =
     let below : c.args.self.now.next < box_size (dims_now c.args.part.now c.args.self.now) = omega (arith, size, c.requires.below) in
     let dims = c.requires.underway.dims c.requires.going c.requires.more c.requires.below in
     let values : c.values_of-values.result.items ≡ values_at (dims_now c.args.part.now c.args.self.now) c.args.self.now.next = c.values_of-values.ensures ∙ ap (λ (ds : List Dim). values_at ds c.args.self.now.next) (c.as_slice.ensures.value ∙ dims) in
-    let inside = inside-narrowed c.args.self.now.pairs.now.items c.args.part.now c.args.self.now.arriving c.args.self.now.row.now.items (64 * c.args.e.now.pages) c.args.self.now.room.now.chosen.items (λ n. laid-beside c.args.q.now c.args.part.now c.requires.ready.held.walked (64 * c.args.e.now.pages) c.requires.ready.held.within c.args.self.now.arriving (length c.args.self.now.room.now.chosen.items) c.requires.underway.placed.here c.requires.more n) (values_at (dims_now c.args.part.now c.args.self.now) c.args.self.now.next) (values-inside (dims_now c.args.part.now c.args.self.now) c.args.self.now.next below) in
+    let inside = inside-narrowed (pairs c.args.self.now.q.now) c.args.part.now c.args.self.now.arriving c.args.self.now.row.now.items (64 * c.args.e.now.pages) c.args.self.now.room.now.chosen.items (λ n. laid-beside c.args.q.now c.args.part.now c.requires.ready.held.walked (64 * c.args.e.now.pages) c.requires.ready.held.within c.args.self.now.arriving (length c.args.self.now.room.now.chosen.items) c.requires.underway.placed.here c.requires.more n) (values_at (dims_now c.args.part.now c.args.self.now) c.args.self.now.next) (values-inside (dims_now c.args.part.now c.args.self.now) c.args.self.now.next below) in
     let w = light-cell c.args.part.now c.args.self.now.arriving (read_from (cells_of c.args.pool.now c.args.e.now)) (length c.args.self.now.room.now.chosen.items) (values_at (dims_now c.args.part.now c.args.self.now) c.args.self.now.next) c.requires.ready.fitting c.requires.more (64 * c.args.e.now.pages) (λ n. laid-beside c.args.q.now c.args.part.now c.requires.ready.held.walked (64 * c.args.e.now.pages) c.requires.ready.held.within c.args.self.now.arriving (length c.args.self.now.room.now.chosen.items) c.requires.underway.placed.here c.requires.more n) inside in
     let cell : c.content-cell.result ≡ cell_in c.args.part.now (read_from (cells_of c.args.pool.now c.args.e.now)) c.args.self.now.arriving (length c.args.self.now.room.now.chosen.items) (values_at (dims_now c.args.part.now c.args.self.now) c.args.self.now.next) =
     c.content-cell.ensures.cell ∙ (λ k. cell_in c.args.part.now (read_from (cells_of c.args.pool.now c.args.e.now)) c.args.self.now.arriving (c.len.ensures.value k) ((c.as_slice-2.ensures.value ∙ values) k)) in
@@ -111,7 +112,7 @@ pub returns-clause-reads : goal.returns-clause-reads
 returns-clause-reads g c =
     let p = c.args.self.now in
     let size = c.requires.underway.size c.requires.going c.requires.more in
-    let few = few-candidates p.pairs.now.items c.args.part.now p.arriving p.row.now.items p.room.now.chosen.items in
+    let few = few-candidates (pairs p.q.now) c.args.part.now p.arriving p.row.now.items p.room.now.chosen.items in
     let same = ap (tried_size c.args.part.now p.arriving) c.requires.underway.placed.same in
     let untried : p.next < tried_size c.args.part.now p.arriving (length p.room.now.numbers.items) = omega (arith, size, c.requires.below, few, same) in
     let more : length p.room.now.numbers.items < length c.args.part.now.streams.items = omega (arith, c.requires.underway.placed.same, c.requires.more) in
@@ -123,7 +124,7 @@ pub returns-clause-turns : goal.returns-clause-turns
 returns-clause-turns g c =
     let p = c.args.self.now in
     let size = c.requires.underway.size c.requires.going c.requires.more in
-    let few = few-candidates p.pairs.now.items c.args.part.now p.arriving p.row.now.items p.room.now.chosen.items in
+    let few = few-candidates (pairs p.q.now) c.args.part.now p.arriving p.row.now.items p.room.now.chosen.items in
     let same = ap (tried_size c.args.part.now p.arriving) c.requires.underway.placed.same in
     let untried : p.next < tried_size c.args.part.now p.arriving (length p.room.now.numbers.items) = omega (arith, size, c.requires.below, few, same) in
     let more : length p.room.now.numbers.items < length c.args.part.now.streams.items = omega (arith, c.requires.underway.placed.same, c.requires.more) in
@@ -144,4 +145,4 @@ enter-requires-clause-apart g c e =
     omega (arith, level, e)
 
 pub enter-requires-clause-sound : goal.enter-requires-clause-sound
-enter-requires-clause-sound g c = numbered c.args.q.now c.args.part.now c.requires.ready.held.walked c.args.self.now.pairs.now.items c.args.self.now.arriving c.args.self.now.row.now.items c.args.self.now.room.now.chosen.items c.requires.underway.placed.here c.requires.more
+enter-requires-clause-sound g c = numbered c.args.q.now c.args.part.now c.requires.ready.held.walked (pairs c.args.self.now.q.now) c.args.self.now.arriving c.args.self.now.row.now.items c.args.self.now.room.now.chosen.items c.requires.underway.placed.here c.requires.more

@@ -1,15 +1,13 @@
-use Rattle.std.proofs.Common.{◌≢◌, ◌<◌, ◌*◌, ◌^◌, ◌∙◌, List, Some, None, length, sym, ap, subst, arith}
+use Rattle.std.proofs.Common.{refl, ◌≢◌, ◌<◌, ◌*◌, ◌^◌, ◌∙◌, List, Some, None, length, sym, ap, subst, arith}
 use Rattle.sem_query.specs.Combinations.{read_from}
 use Rattle.sem_query.specs.Plan.{stream_at}
 use Rattle.sem_query.specs.Parts.{pairs}
-use Rattle.sem_query.specs.declared.part.Pair.{Pair}
 use Rattle.exec_ranges.specs.declared.binding.Binding.{Binding}
 use Rattle.exec_pool.specs.Extents.{cells_of}
 use Rattle.exec_pool.specs.Strides.{at_stride}
 use Rattle.exec_pool.specs.declared.scan.StridedCells.{StridedCells}
 use Rattle.exec_synopsis.proofs.PlanLaws.{laid-beside}
 use Rattle.exec_synopsis.specs.Premises.{IsLaidOut}
-use Rattle.exec_synopsis.specs.Preparing.{IsPrepared}
 use Rattle.exec_join.specs.Along.{SeenAlong, tried_cell, tried_count}
 use Rattle.exec_join.specs.declared.along.Along.TheVariants as along
 use Rattle.exec_join.specs.Choosing.{start}
@@ -25,176 +23,173 @@ line_ahead-requires-clause-here g c =
     let l = c.len.ensures.value in
     let f = c.if-len-as_slice.false in
     let s = ap length c.as_slice.ensures.value in
-    let k = ap length c.as_slice-4.ensures.value in
+    let k = ap length c.as_slice-2.ensures.value in
     omega (arith, l, f, s, k)
 
 pub line_ahead-requires-clause-other : goal.line_ahead-requires-clause-other
-line_ahead-requires-clause-other g c e = start-beside c.args.at.now.pos (sym (ap length (c.as_slice-4.ensures.value ∙ c.begin.ensures)) ∙ e)
-
-pub line_ahead-requires-clause-prepared : goal.line_ahead-requires-clause-prepared
-line_ahead-requires-clause-prepared g c = subst (λ (ps : List Pair). IsPrepared ps c.args.part.now.plan.now c.args.part.now.prepared.now) (sym (c.as_slice-2.ensures.value ∙ c.pairs.ensures)) c.requires.prepared
+line_ahead-requires-clause-other g c e = start-beside c.args.at.now.arriving (sym (ap length (c.as_slice-2.ensures.value ∙ c.begin.ensures)) ∙ e)
 
 pub line_ahead-requires-clause-laid : goal.line_ahead-requires-clause-laid
 line_ahead-requires-clause-laid g c =
-    let pos = c.args.at.now.pos in
-    let part = c.args.part.now.plan.now in
+    let pos = c.args.at.now.arriving in
+    let part = c.args.at.now.part.now in
     let held = c.requires.ready.held in
     let here : pos < length part.streams.items = omega (arith, c.requires.here, held.walked.plan.count) in
     let there : length (start pos) < length part.streams.items =
     (let l = c.len.ensures.value in let f = c.if-len-as_slice.false in let s = ap length c.as_slice.ensures.value in let k = ap length c.begin.ensures in omega (arith, l, f, s, k)) in
-    let known = c.as_slice-4.ensures.value ∙ c.begin.ensures in
-    subst (λ (ks : List Binding). IsLaidOut (stream_at part (length ks)) (2 ^ 32)) (sym known) (laid-here c.args.part.now.q.now part held.walked pos (length (start pos)) here there (start-beside pos))
+    let known = c.as_slice-2.ensures.value ∙ c.begin.ensures in
+    subst (λ (ks : List Binding). IsLaidOut (stream_at part (length ks)) (2 ^ 32)) (sym known) (laid-here c.args.at.now.q.now part held.walked pos (length (start pos)) here there (start-beside pos))
 
 pub first_occupied-requires-clause-within : goal.first_occupied-requires-clause-within
 first_occupied-requires-clause-within g c i l =
-    let pos = c.args.at.now.pos in
-    let part = c.args.part.now.plan.now in
+    let pos = c.args.at.now.arriving in
+    let part = c.args.at.now.part.now in
     let held = c.requires.ready.held in
     let here : pos < length part.streams.items = omega (arith, c.requires.here, held.walked.plan.count) in
     let there : length (start pos) < length part.streams.items =
     (let l = c.len.ensures.value in let f = c.if-len-as_slice.false in let s = ap length c.as_slice.ensures.value in let k = ap length c.begin.ensures in omega (arith, l, f, s, k)) in
-    let known = c.as_slice-4.ensures.value ∙ c.begin.ensures in
-    let other : length c.as_slice-4.result.now ≢ pos = λ e. start-beside pos (sym (ap length known) ∙ e) in
-    let laid : IsLaidOut (stream_at part (length c.as_slice-4.result.now)) (64 * c.args.part.now.extent.now.pages)
-    = subst (λ (ks : List Binding). IsLaidOut (stream_at part (length ks)) (64 * c.args.part.now.extent.now.pages)) (sym known)
-    (laid-beside c.args.part.now.q.now part held.walked (64 * c.args.part.now.extent.now.pages) held.within pos (length (start pos)) here there (start-beside pos)) in
+    let known = c.as_slice-2.ensures.value ∙ c.begin.ensures in
+    let other : length c.as_slice-2.result.now ≢ pos = λ e. start-beside pos (sym (ap length known) ∙ e) in
+    let laid : IsLaidOut (stream_at part (length c.as_slice-2.result.now)) (64 * c.args.e.now.pages)
+    = subst (λ (ks : List Binding). IsLaidOut (stream_at part (length ks)) (64 * c.args.e.now.pages)) (sym known)
+    (laid-beside c.args.at.now.q.now part held.walked (64 * c.args.e.now.pages) held.within pos (length (start pos)) here there (start-beside pos)) in
     let line : StridedCells = record { first = c.in-Some.line.first; stride = c.in-Some.line.stride } in
-    let w = line-within c.as_slice-2.result.now part pos c.as_slice-3.result.now (64 * c.args.part.now.extent.now.pages) c.as_slice-4.result.now (λ n. laid) other line c.in-Some.ensures.line i (omega (arith, l, c.in-Some.ensures.count)) in
+    let w = line-within (pairs c.args.at.now.q.now) part pos c.args.at.now.row.now.items (64 * c.args.e.now.pages) c.as_slice-2.result.now (λ n. laid) other line c.in-Some.ensures.line i (omega (arith, l, c.in-Some.ensures.count)) in
     let r = laid.room in
     omega (arith, w, r)
 
 pub returns-in-Some-first_occupied-clause-seen : goal.returns-in-Some-first_occupied-clause-seen
 returns-in-Some-first_occupied-clause-seen g c =
-    let pos = c.args.at.now.pos in
-    let part = c.args.part.now.plan.now in
+    let pos = c.args.at.now.arriving in
+    let part = c.args.at.now.part.now in
     let held = c.requires.ready.held in
     let here : pos < length part.streams.items = omega (arith, c.requires.here, held.walked.plan.count) in
     let there : length (start pos) < length part.streams.items =
     (let l = c.len.ensures.value in let f = c.if-len-as_slice.false in let s = ap length c.as_slice.ensures.value in let k = ap length c.begin.ensures in omega (arith, l, f, s, k)) in
-    let known = c.as_slice-4.ensures.value ∙ c.begin.ensures in
-    let other : length c.as_slice-4.result.now ≢ pos = λ e. start-beside pos (sym (ap length known) ∙ e) in
-    let laid : IsLaidOut (stream_at part (length c.as_slice-4.result.now)) (64 * c.args.part.now.extent.now.pages)
-    = subst (λ (ks : List Binding). IsLaidOut (stream_at part (length ks)) (64 * c.args.part.now.extent.now.pages)) (sym known)
-    (laid-beside c.args.part.now.q.now part held.walked (64 * c.args.part.now.extent.now.pages) held.within pos (length (start pos)) here there (start-beside pos)) in
+    let known = c.as_slice-2.ensures.value ∙ c.begin.ensures in
+    let other : length c.as_slice-2.result.now ≢ pos = λ e. start-beside pos (sym (ap length known) ∙ e) in
+    let laid : IsLaidOut (stream_at part (length c.as_slice-2.result.now)) (64 * c.args.e.now.pages)
+    = subst (λ (ks : List Binding). IsLaidOut (stream_at part (length ks)) (64 * c.args.e.now.pages)) (sym known)
+    (laid-beside c.args.at.now.q.now part held.walked (64 * c.args.e.now.pages) held.within pos (length (start pos)) here there (start-beside pos)) in
     let line : StridedCells = record { first = c.in-Some.line.first; stride = c.in-Some.line.stride } in
-    let contents = cells_of c.args.pool.now c.args.part.now.extent.now in
-    let cell = line-cell c.as_slice-2.result.now part pos c.as_slice-3.result.now (64 * c.args.part.now.extent.now.pages) c.as_slice-4.result.now (λ n. laid) other line c.in-Some.ensures.line contents in
-    let more : length c.as_slice-4.result.now < length part.streams.items = (let k = ap length known in omega (arith, k, there)) in
-    let seen : SeenAlong (pairs c.args.part.now.q.now) part (read_from contents) pos c.args.at.now.row.now.items (start pos) c.args.steps.now.reads (along.Found c.in-Some-first_occupied.filled) c.first_occupied.new.steps.reads
-    = seen-same (pairs c.args.part.now.q.now) c.as_slice-2.result.now part (read_from contents) pos c.args.at.now.row.now.items c.as_slice-3.result.now c.as_slice-4.result.now c.args.steps.now.reads (along.Found c.in-Some-first_occupied.filled) c.first_occupied.new.steps.reads
-    (c.as_slice-2.ensures.value ∙ c.pairs.ensures) c.as_slice-3.ensures.value known (
+    let contents = cells_of c.args.pool.now c.args.e.now in
+    let cell = line-cell (pairs c.args.at.now.q.now) part pos c.args.at.now.row.now.items (64 * c.args.e.now.pages) c.as_slice-2.result.now (λ n. laid) other line c.in-Some.ensures.line contents in
+    let more : length c.as_slice-2.result.now < length part.streams.items = (let k = ap length known in omega (arith, k, there)) in
+    let seen : SeenAlong (pairs c.args.at.now.q.now) part (read_from contents) pos c.args.at.now.row.now.items (start pos) c.args.steps.now.reads (along.Found c.in-Some-first_occupied.filled) c.first_occupied.new.steps.reads
+    = seen-same (pairs c.args.at.now.q.now) (pairs c.args.at.now.q.now) part (read_from contents) pos c.args.at.now.row.now.items c.args.at.now.row.now.items c.as_slice-2.result.now c.args.steps.now.reads (along.Found c.in-Some-first_occupied.filled) c.first_occupied.new.steps.reads
+    refl refl known (
       more,
-      scanned-alike (at_stride contents line) (tried_cell c.as_slice-2.result.now part (read_from contents) pos c.as_slice-3.result.now c.as_slice-4.result.now)
-          c.in-Some.line.count (tried_count c.as_slice-2.result.now part pos c.as_slice-3.result.now c.as_slice-4.result.now) c.args.steps.now.reads (Some c.in-Some-first_occupied.filled) c.first_occupied.new.steps.reads c.in-Some.ensures.count
+      scanned-alike (at_stride contents line) (tried_cell (pairs c.args.at.now.q.now) part (read_from contents) pos c.args.at.now.row.now.items c.as_slice-2.result.now)
+          c.in-Some.line.count (tried_count (pairs c.args.at.now.q.now) part pos c.args.at.now.row.now.items c.as_slice-2.result.now) c.args.steps.now.reads (Some c.in-Some-first_occupied.filled) c.first_occupied.new.steps.reads c.in-Some.ensures.count
           (λ i l. sym (cell i l)) c.in-Some-first_occupied.ensures.reads,
     ) in
     seen
 
 pub returns-in-None-clause-seen : goal.returns-in-None-clause-seen
 returns-in-None-clause-seen g c =
-    let pos = c.args.at.now.pos in
-    let part = c.args.part.now.plan.now in
+    let pos = c.args.at.now.arriving in
+    let part = c.args.at.now.part.now in
     let held = c.requires.ready.held in
     let here : pos < length part.streams.items = omega (arith, c.requires.here, held.walked.plan.count) in
     let there : length (start pos) < length part.streams.items =
     (let l = c.len.ensures.value in let f = c.if-len-as_slice.false in let s = ap length c.as_slice.ensures.value in let k = ap length c.begin.ensures in omega (arith, l, f, s, k)) in
-    let known = c.as_slice-4.ensures.value ∙ c.begin.ensures in
-    let other : length c.as_slice-4.result.now ≢ pos = λ e. start-beside pos (sym (ap length known) ∙ e) in
-    let laid : IsLaidOut (stream_at part (length c.as_slice-4.result.now)) (64 * c.args.part.now.extent.now.pages)
-    = subst (λ (ks : List Binding). IsLaidOut (stream_at part (length ks)) (64 * c.args.part.now.extent.now.pages)) (sym known)
-    (laid-beside c.args.part.now.q.now part held.walked (64 * c.args.part.now.extent.now.pages) held.within pos (length (start pos)) here there (start-beside pos)) in
+    let known = c.as_slice-2.ensures.value ∙ c.begin.ensures in
+    let other : length c.as_slice-2.result.now ≢ pos = λ e. start-beside pos (sym (ap length known) ∙ e) in
+    let laid : IsLaidOut (stream_at part (length c.as_slice-2.result.now)) (64 * c.args.e.now.pages)
+    = subst (λ (ks : List Binding). IsLaidOut (stream_at part (length ks)) (64 * c.args.e.now.pages)) (sym known)
+    (laid-beside c.args.at.now.q.now part held.walked (64 * c.args.e.now.pages) held.within pos (length (start pos)) here there (start-beside pos)) in
     let line : StridedCells = record { first = c.in-Some.line.first; stride = c.in-Some.line.stride } in
-    let contents = cells_of c.args.pool.now c.args.part.now.extent.now in
-    let cell = line-cell c.as_slice-2.result.now part pos c.as_slice-3.result.now (64 * c.args.part.now.extent.now.pages) c.as_slice-4.result.now (λ n. laid) other line c.in-Some.ensures.line contents in
-    let more : length c.as_slice-4.result.now < length part.streams.items = (let k = ap length known in omega (arith, k, there)) in
-    let seen : SeenAlong (pairs c.args.part.now.q.now) part (read_from contents) pos c.args.at.now.row.now.items (start pos) c.args.steps.now.reads (along.Nothing) c.first_occupied.new.steps.reads
-    = seen-same (pairs c.args.part.now.q.now) c.as_slice-2.result.now part (read_from contents) pos c.args.at.now.row.now.items c.as_slice-3.result.now c.as_slice-4.result.now c.args.steps.now.reads (along.Nothing) c.first_occupied.new.steps.reads
-    (c.as_slice-2.ensures.value ∙ c.pairs.ensures) c.as_slice-3.ensures.value known (
+    let contents = cells_of c.args.pool.now c.args.e.now in
+    let cell = line-cell (pairs c.args.at.now.q.now) part pos c.args.at.now.row.now.items (64 * c.args.e.now.pages) c.as_slice-2.result.now (λ n. laid) other line c.in-Some.ensures.line contents in
+    let more : length c.as_slice-2.result.now < length part.streams.items = (let k = ap length known in omega (arith, k, there)) in
+    let seen : SeenAlong (pairs c.args.at.now.q.now) part (read_from contents) pos c.args.at.now.row.now.items (start pos) c.args.steps.now.reads (along.Nothing) c.first_occupied.new.steps.reads
+    = seen-same (pairs c.args.at.now.q.now) (pairs c.args.at.now.q.now) part (read_from contents) pos c.args.at.now.row.now.items c.args.at.now.row.now.items c.as_slice-2.result.now c.args.steps.now.reads (along.Nothing) c.first_occupied.new.steps.reads
+    refl refl known (
       more,
-      scanned-alike (at_stride contents line) (tried_cell c.as_slice-2.result.now part (read_from contents) pos c.as_slice-3.result.now c.as_slice-4.result.now)
-          c.in-Some.line.count (tried_count c.as_slice-2.result.now part pos c.as_slice-3.result.now c.as_slice-4.result.now) c.args.steps.now.reads None c.first_occupied.new.steps.reads c.in-Some.ensures.count
+      scanned-alike (at_stride contents line) (tried_cell (pairs c.args.at.now.q.now) part (read_from contents) pos c.args.at.now.row.now.items c.as_slice-2.result.now)
+          c.in-Some.line.count (tried_count (pairs c.args.at.now.q.now) part pos c.args.at.now.row.now.items c.as_slice-2.result.now) c.args.steps.now.reads None c.first_occupied.new.steps.reads c.in-Some.ensures.count
           (λ i l. sym (cell i l)) c.in-None.ensures.reads,
     ) in
     seen
 
 pub returns-in-Some-first_occupied-clause-found : goal.returns-in-Some-first_occupied-clause-found
 returns-in-Some-first_occupied-clause-found g c =
-    let pos = c.args.at.now.pos in
-    let part = c.args.part.now.plan.now in
+    let pos = c.args.at.now.arriving in
+    let part = c.args.at.now.part.now in
     let held = c.requires.ready.held in
     let here : pos < length part.streams.items = omega (arith, c.requires.here, held.walked.plan.count) in
     let there : length (start pos) < length part.streams.items =
     (let l = c.len.ensures.value in let f = c.if-len-as_slice.false in let s = ap length c.as_slice.ensures.value in let k = ap length c.begin.ensures in omega (arith, l, f, s, k)) in
-    let known = c.as_slice-4.ensures.value ∙ c.begin.ensures in
-    let other : length c.as_slice-4.result.now ≢ pos = λ e. start-beside pos (sym (ap length known) ∙ e) in
-    let laid : IsLaidOut (stream_at part (length c.as_slice-4.result.now)) (64 * c.args.part.now.extent.now.pages)
-    = subst (λ (ks : List Binding). IsLaidOut (stream_at part (length ks)) (64 * c.args.part.now.extent.now.pages)) (sym known)
-    (laid-beside c.args.part.now.q.now part held.walked (64 * c.args.part.now.extent.now.pages) held.within pos (length (start pos)) here there (start-beside pos)) in
+    let known = c.as_slice-2.ensures.value ∙ c.begin.ensures in
+    let other : length c.as_slice-2.result.now ≢ pos = λ e. start-beside pos (sym (ap length known) ∙ e) in
+    let laid : IsLaidOut (stream_at part (length c.as_slice-2.result.now)) (64 * c.args.e.now.pages)
+    = subst (λ (ks : List Binding). IsLaidOut (stream_at part (length ks)) (64 * c.args.e.now.pages)) (sym known)
+    (laid-beside c.args.at.now.q.now part held.walked (64 * c.args.e.now.pages) held.within pos (length (start pos)) here there (start-beside pos)) in
     let line : StridedCells = record { first = c.in-Some.line.first; stride = c.in-Some.line.stride } in
-    let contents = cells_of c.args.pool.now c.args.part.now.extent.now in
-    let cell = line-cell c.as_slice-2.result.now part pos c.as_slice-3.result.now (64 * c.args.part.now.extent.now.pages) c.as_slice-4.result.now (λ n. laid) other line c.in-Some.ensures.line contents in
-    let more : length c.as_slice-4.result.now < length part.streams.items = (let k = ap length known in omega (arith, k, there)) in
-    let seen : SeenAlong (pairs c.args.part.now.q.now) part (read_from contents) pos c.args.at.now.row.now.items (start pos) c.args.steps.now.reads (along.Found c.in-Some-first_occupied.filled) c.first_occupied.new.steps.reads
-    = seen-same (pairs c.args.part.now.q.now) c.as_slice-2.result.now part (read_from contents) pos c.args.at.now.row.now.items c.as_slice-3.result.now c.as_slice-4.result.now c.args.steps.now.reads (along.Found c.in-Some-first_occupied.filled) c.first_occupied.new.steps.reads
-    (c.as_slice-2.ensures.value ∙ c.pairs.ensures) c.as_slice-3.ensures.value known (
+    let contents = cells_of c.args.pool.now c.args.e.now in
+    let cell = line-cell (pairs c.args.at.now.q.now) part pos c.args.at.now.row.now.items (64 * c.args.e.now.pages) c.as_slice-2.result.now (λ n. laid) other line c.in-Some.ensures.line contents in
+    let more : length c.as_slice-2.result.now < length part.streams.items = (let k = ap length known in omega (arith, k, there)) in
+    let seen : SeenAlong (pairs c.args.at.now.q.now) part (read_from contents) pos c.args.at.now.row.now.items (start pos) c.args.steps.now.reads (along.Found c.in-Some-first_occupied.filled) c.first_occupied.new.steps.reads
+    = seen-same (pairs c.args.at.now.q.now) (pairs c.args.at.now.q.now) part (read_from contents) pos c.args.at.now.row.now.items c.args.at.now.row.now.items c.as_slice-2.result.now c.args.steps.now.reads (along.Found c.in-Some-first_occupied.filled) c.first_occupied.new.steps.reads
+    refl refl known (
       more,
-      scanned-alike (at_stride contents line) (tried_cell c.as_slice-2.result.now part (read_from contents) pos c.as_slice-3.result.now c.as_slice-4.result.now)
-          c.in-Some.line.count (tried_count c.as_slice-2.result.now part pos c.as_slice-3.result.now c.as_slice-4.result.now) c.args.steps.now.reads (Some c.in-Some-first_occupied.filled) c.first_occupied.new.steps.reads c.in-Some.ensures.count
+      scanned-alike (at_stride contents line) (tried_cell (pairs c.args.at.now.q.now) part (read_from contents) pos c.args.at.now.row.now.items c.as_slice-2.result.now)
+          c.in-Some.line.count (tried_count (pairs c.args.at.now.q.now) part pos c.args.at.now.row.now.items c.as_slice-2.result.now) c.args.steps.now.reads (Some c.in-Some-first_occupied.filled) c.first_occupied.new.steps.reads c.in-Some.ensures.count
           (λ i l. sym (cell i l)) c.in-Some-first_occupied.ensures.reads,
     ) in
-    found-candidate c.args.part.now.q.now part pos c.args.at.now.row.now.items contents held.walked here c.requires.ready.fitting (64 * c.args.part.now.extent.now.pages)
-    (λ t n. laid-beside c.args.part.now.q.now part held.walked (64 * c.args.part.now.extent.now.pages) held.within pos (length (start pos)) here t n) c.args.steps.now.reads c.first_occupied.new.steps.reads (along.Found c.in-Some-first_occupied.filled) seen
+    found-candidate c.args.at.now.q.now part pos c.args.at.now.row.now.items contents held.walked here c.requires.ready.fitting (64 * c.args.e.now.pages)
+    (λ t n. laid-beside c.args.at.now.q.now part held.walked (64 * c.args.e.now.pages) held.within pos (length (start pos)) here t n) c.args.steps.now.reads c.first_occupied.new.steps.reads (along.Found c.in-Some-first_occupied.filled) seen
 
 pub returns-in-None-clause-nothing : goal.returns-in-None-clause-nothing
 returns-in-None-clause-nothing g c e =
-    let pos = c.args.at.now.pos in
-    let part = c.args.part.now.plan.now in
+    let pos = c.args.at.now.arriving in
+    let part = c.args.at.now.part.now in
     let held = c.requires.ready.held in
     let here : pos < length part.streams.items = omega (arith, c.requires.here, held.walked.plan.count) in
     let there : length (start pos) < length part.streams.items =
     (let l = c.len.ensures.value in let f = c.if-len-as_slice.false in let s = ap length c.as_slice.ensures.value in let k = ap length c.begin.ensures in omega (arith, l, f, s, k)) in
-    let known = c.as_slice-4.ensures.value ∙ c.begin.ensures in
-    let other : length c.as_slice-4.result.now ≢ pos = λ e. start-beside pos (sym (ap length known) ∙ e) in
-    let laid : IsLaidOut (stream_at part (length c.as_slice-4.result.now)) (64 * c.args.part.now.extent.now.pages)
-    = subst (λ (ks : List Binding). IsLaidOut (stream_at part (length ks)) (64 * c.args.part.now.extent.now.pages)) (sym known)
-    (laid-beside c.args.part.now.q.now part held.walked (64 * c.args.part.now.extent.now.pages) held.within pos (length (start pos)) here there (start-beside pos)) in
+    let known = c.as_slice-2.ensures.value ∙ c.begin.ensures in
+    let other : length c.as_slice-2.result.now ≢ pos = λ e. start-beside pos (sym (ap length known) ∙ e) in
+    let laid : IsLaidOut (stream_at part (length c.as_slice-2.result.now)) (64 * c.args.e.now.pages)
+    = subst (λ (ks : List Binding). IsLaidOut (stream_at part (length ks)) (64 * c.args.e.now.pages)) (sym known)
+    (laid-beside c.args.at.now.q.now part held.walked (64 * c.args.e.now.pages) held.within pos (length (start pos)) here there (start-beside pos)) in
     let line : StridedCells = record { first = c.in-Some.line.first; stride = c.in-Some.line.stride } in
-    let contents = cells_of c.args.pool.now c.args.part.now.extent.now in
-    let cell = line-cell c.as_slice-2.result.now part pos c.as_slice-3.result.now (64 * c.args.part.now.extent.now.pages) c.as_slice-4.result.now (λ n. laid) other line c.in-Some.ensures.line contents in
-    let more : length c.as_slice-4.result.now < length part.streams.items = (let k = ap length known in omega (arith, k, there)) in
-    let seen : SeenAlong (pairs c.args.part.now.q.now) part (read_from contents) pos c.args.at.now.row.now.items (start pos) c.args.steps.now.reads (along.Nothing) c.first_occupied.new.steps.reads
-    = seen-same (pairs c.args.part.now.q.now) c.as_slice-2.result.now part (read_from contents) pos c.args.at.now.row.now.items c.as_slice-3.result.now c.as_slice-4.result.now c.args.steps.now.reads (along.Nothing) c.first_occupied.new.steps.reads
-    (c.as_slice-2.ensures.value ∙ c.pairs.ensures) c.as_slice-3.ensures.value known (
+    let contents = cells_of c.args.pool.now c.args.e.now in
+    let cell = line-cell (pairs c.args.at.now.q.now) part pos c.args.at.now.row.now.items (64 * c.args.e.now.pages) c.as_slice-2.result.now (λ n. laid) other line c.in-Some.ensures.line contents in
+    let more : length c.as_slice-2.result.now < length part.streams.items = (let k = ap length known in omega (arith, k, there)) in
+    let seen : SeenAlong (pairs c.args.at.now.q.now) part (read_from contents) pos c.args.at.now.row.now.items (start pos) c.args.steps.now.reads (along.Nothing) c.first_occupied.new.steps.reads
+    = seen-same (pairs c.args.at.now.q.now) (pairs c.args.at.now.q.now) part (read_from contents) pos c.args.at.now.row.now.items c.args.at.now.row.now.items c.as_slice-2.result.now c.args.steps.now.reads (along.Nothing) c.first_occupied.new.steps.reads
+    refl refl known (
       more,
-      scanned-alike (at_stride contents line) (tried_cell c.as_slice-2.result.now part (read_from contents) pos c.as_slice-3.result.now c.as_slice-4.result.now)
-          c.in-Some.line.count (tried_count c.as_slice-2.result.now part pos c.as_slice-3.result.now c.as_slice-4.result.now) c.args.steps.now.reads None c.first_occupied.new.steps.reads c.in-Some.ensures.count
+      scanned-alike (at_stride contents line) (tried_cell (pairs c.args.at.now.q.now) part (read_from contents) pos c.args.at.now.row.now.items c.as_slice-2.result.now)
+          c.in-Some.line.count (tried_count (pairs c.args.at.now.q.now) part pos c.args.at.now.row.now.items c.as_slice-2.result.now) c.args.steps.now.reads None c.first_occupied.new.steps.reads c.in-Some.ensures.count
           (λ i l. sym (cell i l)) c.in-None.ensures.reads,
     ) in
-    nothing-seen c.args.part.now.q.now part pos c.args.at.now.row.now.items (read_from contents) held.walked here c.args.steps.now.reads c.first_occupied.new.steps.reads along.Nothing seen e
+    nothing-seen c.args.at.now.q.now part pos c.args.at.now.row.now.items (read_from contents) held.walked here c.args.steps.now.reads c.first_occupied.new.steps.reads along.Nothing seen e
 
 pub returns-in-None-clause-few : goal.returns-in-None-clause-few
 returns-in-None-clause-few g c e =
-    let pos = c.args.at.now.pos in
-    let part = c.args.part.now.plan.now in
+    let pos = c.args.at.now.arriving in
+    let part = c.args.at.now.part.now in
     let held = c.requires.ready.held in
     let here : pos < length part.streams.items = omega (arith, c.requires.here, held.walked.plan.count) in
     let there : length (start pos) < length part.streams.items =
     (let l = c.len.ensures.value in let f = c.if-len-as_slice.false in let s = ap length c.as_slice.ensures.value in let k = ap length c.begin.ensures in omega (arith, l, f, s, k)) in
-    let known = c.as_slice-4.ensures.value ∙ c.begin.ensures in
-    let other : length c.as_slice-4.result.now ≢ pos = λ e. start-beside pos (sym (ap length known) ∙ e) in
-    let laid : IsLaidOut (stream_at part (length c.as_slice-4.result.now)) (64 * c.args.part.now.extent.now.pages)
-    = subst (λ (ks : List Binding). IsLaidOut (stream_at part (length ks)) (64 * c.args.part.now.extent.now.pages)) (sym known)
-    (laid-beside c.args.part.now.q.now part held.walked (64 * c.args.part.now.extent.now.pages) held.within pos (length (start pos)) here there (start-beside pos)) in
+    let known = c.as_slice-2.ensures.value ∙ c.begin.ensures in
+    let other : length c.as_slice-2.result.now ≢ pos = λ e. start-beside pos (sym (ap length known) ∙ e) in
+    let laid : IsLaidOut (stream_at part (length c.as_slice-2.result.now)) (64 * c.args.e.now.pages)
+    = subst (λ (ks : List Binding). IsLaidOut (stream_at part (length ks)) (64 * c.args.e.now.pages)) (sym known)
+    (laid-beside c.args.at.now.q.now part held.walked (64 * c.args.e.now.pages) held.within pos (length (start pos)) here there (start-beside pos)) in
     let line : StridedCells = record { first = c.in-Some.line.first; stride = c.in-Some.line.stride } in
-    let contents = cells_of c.args.pool.now c.args.part.now.extent.now in
-    let cell = line-cell c.as_slice-2.result.now part pos c.as_slice-3.result.now (64 * c.args.part.now.extent.now.pages) c.as_slice-4.result.now (λ n. laid) other line c.in-Some.ensures.line contents in
-    let more : length c.as_slice-4.result.now < length part.streams.items = (let k = ap length known in omega (arith, k, there)) in
-    let seen : SeenAlong (pairs c.args.part.now.q.now) part (read_from contents) pos c.args.at.now.row.now.items (start pos) c.args.steps.now.reads (along.Nothing) c.first_occupied.new.steps.reads
-    = seen-same (pairs c.args.part.now.q.now) c.as_slice-2.result.now part (read_from contents) pos c.args.at.now.row.now.items c.as_slice-3.result.now c.as_slice-4.result.now c.args.steps.now.reads (along.Nothing) c.first_occupied.new.steps.reads
-    (c.as_slice-2.ensures.value ∙ c.pairs.ensures) c.as_slice-3.ensures.value known (
+    let contents = cells_of c.args.pool.now c.args.e.now in
+    let cell = line-cell (pairs c.args.at.now.q.now) part pos c.args.at.now.row.now.items (64 * c.args.e.now.pages) c.as_slice-2.result.now (λ n. laid) other line c.in-Some.ensures.line contents in
+    let more : length c.as_slice-2.result.now < length part.streams.items = (let k = ap length known in omega (arith, k, there)) in
+    let seen : SeenAlong (pairs c.args.at.now.q.now) part (read_from contents) pos c.args.at.now.row.now.items (start pos) c.args.steps.now.reads (along.Nothing) c.first_occupied.new.steps.reads
+    = seen-same (pairs c.args.at.now.q.now) (pairs c.args.at.now.q.now) part (read_from contents) pos c.args.at.now.row.now.items c.args.at.now.row.now.items c.as_slice-2.result.now c.args.steps.now.reads (along.Nothing) c.first_occupied.new.steps.reads
+    refl refl known (
       more,
-      scanned-alike (at_stride contents line) (tried_cell c.as_slice-2.result.now part (read_from contents) pos c.as_slice-3.result.now c.as_slice-4.result.now)
-          c.in-Some.line.count (tried_count c.as_slice-2.result.now part pos c.as_slice-3.result.now c.as_slice-4.result.now) c.args.steps.now.reads None c.first_occupied.new.steps.reads c.in-Some.ensures.count
+      scanned-alike (at_stride contents line) (tried_cell (pairs c.args.at.now.q.now) part (read_from contents) pos c.args.at.now.row.now.items c.as_slice-2.result.now)
+          c.in-Some.line.count (tried_count (pairs c.args.at.now.q.now) part pos c.args.at.now.row.now.items c.as_slice-2.result.now) c.args.steps.now.reads None c.first_occupied.new.steps.reads c.in-Some.ensures.count
           (λ i l. sym (cell i l)) c.in-None.ensures.reads,
     ) in
-    nothing-few (pairs c.args.part.now.q.now) part pos c.args.at.now.row.now.items (read_from contents) c.args.steps.now.reads c.first_occupied.new.steps.reads along.Nothing seen e
+    nothing-few (pairs c.args.at.now.q.now) part pos c.args.at.now.row.now.items (read_from contents) c.args.steps.now.reads c.first_occupied.new.steps.reads along.Nothing seen e

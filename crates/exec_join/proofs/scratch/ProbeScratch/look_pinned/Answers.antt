@@ -1,3 +1,4 @@
+use Rattle.sem_query.specs.Parts.{pairs}
 use Rattle.std.proofs.Common.{◌≡◌, ◌∙◌, ℕ, List, length, sym, ap, subst}
 use Rattle.sem_query.specs.Boxes.{box_size}
 use Rattle.sem_query.specs.Plan.{stream_at, dims_at}
@@ -15,7 +16,7 @@ returns-clause-fixed c t =
     let known = c.args.self.now.chosen.items in
     let f = c.in-Some.ensures in
     let line : StridedCells = record { first = c.in-Some.first; stride = 1 } in
-    let e : c.pinned_dims.new.dims.items ≡ narrowed_dims c.args.at.now.pairs.now part c.args.at.now.arriving c.args.at.now.row.now known = f.are ∙ ap (λ (cs : List Binding). narrowed_dims c.args.at.now.pairs.now part c.args.at.now.arriving c.args.at.now.row.now cs) c.as_slice.ensures.value in (
+    let e : c.pinned_dims.new.dims.items ≡ narrowed_dims (pairs c.args.at.now.q.now) part c.args.at.now.arriving c.args.at.now.row.now.items known = f.are ∙ ap (λ (cs : List Binding). narrowed_dims (pairs c.args.at.now.q.now) part c.args.at.now.arriving c.args.at.now.row.now.items cs) c.as_slice.ensures.value in (
       e,
       ap box_size (sym e) ∙ f.one,
       (

@@ -26,7 +26,7 @@ use Rattle.exec_query.proofs.executor.Executor.apply_by_cells.Goals as goal
 
 pub meet_cells-there-requires-clause-direct : goal.meet_cells-there-requires-clause-direct
 meet_cells-there-requires-clause-direct g c =
-    let e : ExecutorValue = record { query = c.self.inside.query; shared = c.self.inside.shared; plan = c.self.inside.plan; extent = c.self.inside.extent; given = c.self.inside.given; table = c.self.inside.table; saturation = c.self.inside.saturation } in
+    let e : ExecutorValue = record { query = c.self.inside.planned.query; shared = c.self.inside.shared; plan = c.self.inside.planned.plan; extent = c.self.inside.planned.extent; given = c.self.inside.given; table = c.self.inside.table; saturation = c.self.inside.saturation } in
     let r = arrival c.args.stream c.args.row.now.items in
     let d = c.in-Some.direct.now in
     let is_direct : IsDirect e.query (parts_of e.plan) d
@@ -35,14 +35,14 @@ meet_cells-there-requires-clause-direct g c =
 
 pub meet_cells-there-requires-clause-ready : goal.meet_cells-there-requires-clause-ready
 meet_cells-there-requires-clause-ready g c =
-    let e : ExecutorValue = record { query = c.self.inside.query; shared = c.self.inside.shared; plan = c.self.inside.plan; extent = c.self.inside.extent; given = c.self.inside.given; table = c.self.inside.table; saturation = c.self.inside.saturation } in
+    let e : ExecutorValue = record { query = c.self.inside.planned.query; shared = c.self.inside.shared; plan = c.self.inside.planned.plan; extent = c.self.inside.planned.extent; given = c.self.inside.given; table = c.self.inside.table; saturation = c.self.inside.saturation } in
     let r = arrival c.args.stream c.args.row.now.items in
     let ready : IsReady e c.args.pool.now = subst (λ (x : ExecutorValue). IsReady x c.args.pool.now) (sym c.self.view_is) c.requires.ready in
     subst (λ (p : Plan). IsPlanReady e.query p c.args.pool.now e.extent) c.in-PointLookup-Parts.is-1 (ready_row e c.self.invariant.0 c.args.pool.now ready r c.self.invariant.0.ascends)
 
 pub take_up_anew-requires-clause-room : goal.take_up_anew-requires-clause-room
 take_up_anew-requires-clause-room g c =
-    let e : ExecutorValue = record { query = c.self.inside.query; shared = c.self.inside.shared; plan = c.self.inside.plan; extent = c.self.inside.extent; given = c.self.inside.given; table = c.self.inside.table; saturation = c.self.inside.saturation } in
+    let e : ExecutorValue = record { query = c.self.inside.planned.query; shared = c.self.inside.shared; plan = c.self.inside.planned.plan; extent = c.self.inside.planned.extent; given = c.self.inside.given; table = c.self.inside.table; saturation = c.self.inside.saturation } in
     let r = arrival c.args.stream c.args.row.now.items in
     let d = c.in-Some.direct.now in
     let is_direct : IsDirect e.query (parts_of e.plan) d
@@ -55,7 +55,7 @@ take_up_anew-requires-clause-room g c =
 
 pub invariant_of-self : goal.invariant_of-self
 invariant_of-self g c =
-    let e : ExecutorValue = record { query = c.self.inside.query; shared = c.self.inside.shared; plan = c.self.inside.plan; extent = c.self.inside.extent; given = c.self.inside.given; table = c.self.inside.table; saturation = c.self.inside.saturation } in
+    let e : ExecutorValue = record { query = c.self.inside.planned.query; shared = c.self.inside.shared; plan = c.self.inside.planned.plan; extent = c.self.inside.planned.extent; given = c.self.inside.given; table = c.self.inside.table; saturation = c.self.inside.saturation } in
     let r = arrival c.args.stream c.args.row.now.items in
     let d = c.in-Some.direct.now in
     let is_direct : IsDirect e.query (parts_of e.plan) d
@@ -69,11 +69,11 @@ invariant_of-self g c =
     = clear ∙ none_added e.query.distinct (told_by d c.args.row.now.items c.meet_cells-there.result) left (told-empty d c.args.row.now.items c.meet_cells-there.result (c.is_empty.ensures.yes c.if-is_empty.true))
     ∙ ap (λ (fs : List Found). with_entries e.table (with_all e.query.distinct fs (cleared e.query.distinct e.table.entries))) (sym answers) in
     let table = table_later e c.self.invariant.0 c.args.pool.now ready r c.self.invariant.0.ascends e.query.distinct refl left c.clear.new.table refl is in
-    (subst (λ (t : TableValue). IsSound (let o : ExecutorValue = record { query = c.self.inside.query; shared = c.self.inside.shared; plan = c.self.inside.plan; extent = c.self.inside.extent; given = c.self.inside.given + 1; table = t; saturation = c.self.inside.saturation } in o)) (sym table) (sound_later e c.self.invariant.0 c.args.pool.now ready r c.self.invariant.0.ascends), c.self.invariant.1, c.self.invariant.2, c.self.invariant.3)
+    (subst (λ (t : TableValue). IsSound (let o : ExecutorValue = record { query = c.self.inside.planned.query; shared = c.self.inside.shared; plan = c.self.inside.planned.plan; extent = c.self.inside.planned.extent; given = c.self.inside.given + 1; table = t; saturation = c.self.inside.saturation } in o)) (sym table) (sound_later e c.self.invariant.0 c.args.pool.now ready r c.self.invariant.0.ascends), c.self.invariant.1, c.self.invariant.2, c.self.invariant.3)
 
 pub invariant_of-self-2 : goal.invariant_of-self-2
 invariant_of-self-2 g c =
-    let e : ExecutorValue = record { query = c.self.inside.query; shared = c.self.inside.shared; plan = c.self.inside.plan; extent = c.self.inside.extent; given = c.self.inside.given; table = c.self.inside.table; saturation = c.self.inside.saturation } in
+    let e : ExecutorValue = record { query = c.self.inside.planned.query; shared = c.self.inside.shared; plan = c.self.inside.planned.plan; extent = c.self.inside.planned.extent; given = c.self.inside.given; table = c.self.inside.table; saturation = c.self.inside.saturation } in
     let r = arrival c.args.stream c.args.row.now.items in
     let d = c.in-Some.direct.now in
     let is_direct : IsDirect e.query (parts_of e.plan) d
@@ -85,11 +85,11 @@ invariant_of-self-2 g c =
     let is : c.take_up_anew.new.table ≡ with_entries e.table (with_all e.query.distinct (answered_by e.query e.plan (read_from (cells_of c.args.pool.now e.extent)) r) (cleared e.query.distinct e.table.entries))
     = c.take_up_anew.ensures ∙ ap (λ (fs : List Found). with_entries e.table (with_all e.query.distinct fs (cleared e.query.distinct e.table.entries))) (sym answers) in
     let table = table_later e c.self.invariant.0 c.args.pool.now ready r c.self.invariant.0.ascends e.query.distinct refl left c.take_up_anew.new.table refl is in
-    (subst (λ (t : TableValue). IsSound (let o : ExecutorValue = record { query = c.self.inside.query; shared = c.self.inside.shared; plan = c.self.inside.plan; extent = c.self.inside.extent; given = c.self.inside.given + 1; table = t; saturation = c.self.inside.saturation } in o)) (sym table) (sound_later e c.self.invariant.0 c.args.pool.now ready r c.self.invariant.0.ascends), c.self.invariant.1, c.self.invariant.2, c.self.invariant.3)
+    (subst (λ (t : TableValue). IsSound (let o : ExecutorValue = record { query = c.self.inside.planned.query; shared = c.self.inside.shared; plan = c.self.inside.planned.plan; extent = c.self.inside.planned.extent; given = c.self.inside.given + 1; table = t; saturation = c.self.inside.saturation } in o)) (sym table) (sound_later e c.self.invariant.0 c.args.pool.now ready r c.self.invariant.0.ascends), c.self.invariant.1, c.self.invariant.2, c.self.invariant.3)
 
 pub returns-then-is_empty-clause-took : goal.returns-then-is_empty-clause-took
 returns-then-is_empty-clause-took g c =
-    let e : ExecutorValue = record { query = c.self.inside.query; shared = c.self.inside.shared; plan = c.self.inside.plan; extent = c.self.inside.extent; given = c.self.inside.given; table = c.self.inside.table; saturation = c.self.inside.saturation } in
+    let e : ExecutorValue = record { query = c.self.inside.planned.query; shared = c.self.inside.shared; plan = c.self.inside.planned.plan; extent = c.self.inside.planned.extent; given = c.self.inside.given; table = c.self.inside.table; saturation = c.self.inside.saturation } in
     let r = arrival c.args.stream c.args.row.now.items in
     let d = c.in-Some.direct.now in
     let is_direct : IsDirect e.query (parts_of e.plan) d
@@ -108,8 +108,8 @@ returns-then-is_empty-clause-took g c =
     = subst (λ (p : Plan). HasTaken e.query (parts_of p) e.extent r (length (parts_of p)) c.args.pool.now c.meet_cells-there.new.pool) (sym c.in-PointLookup-Parts.is-1)
     (subst (λ (x : Arrival). HasTaken e.query c.in-PointLookup-Parts.parts e.extent x (length c.in-PointLookup-Parts.parts) c.args.pool.now c.meet_cells-there.new.pool)
     (sym (direct-arrives e.query (parts_of e.plan) d is_direct c.args.stream c.in-Some.ensures.1 c.args.row.now.items)) c.meet_cells-there.ensures.pool) in
-    subst (λ (x : ExecutorValue). TakesRow x c.args.pool.now r (let o : ExecutorValue = record { query = c.self.inside.query; shared = c.self.inside.shared; plan = c.self.inside.plan; extent = c.self.inside.extent; given = c.self.inside.given + 1; table = c.clear.new.table; saturation = c.self.inside.saturation } in o) c.meet_cells-there.new.pool) c.self.view_is
-    (subst (λ (t : TableValue). TakesRow e c.args.pool.now r (let o : ExecutorValue = record { query = c.self.inside.query; shared = c.self.inside.shared; plan = c.self.inside.plan; extent = c.self.inside.extent; given = c.self.inside.given + 1; table = t; saturation = c.self.inside.saturation } in o) c.meet_cells-there.new.pool) (sym table) (row-taken e c.self.invariant.0 c.args.pool.now ready r keeps c.meet_cells-there.new.pool pool))
+    subst (λ (x : ExecutorValue). TakesRow x c.args.pool.now r (let o : ExecutorValue = record { query = c.self.inside.planned.query; shared = c.self.inside.shared; plan = c.self.inside.planned.plan; extent = c.self.inside.planned.extent; given = c.self.inside.given + 1; table = c.clear.new.table; saturation = c.self.inside.saturation } in o) c.meet_cells-there.new.pool) c.self.view_is
+    (subst (λ (t : TableValue). TakesRow e c.args.pool.now r (let o : ExecutorValue = record { query = c.self.inside.planned.query; shared = c.self.inside.shared; plan = c.self.inside.planned.plan; extent = c.self.inside.planned.extent; given = c.self.inside.given + 1; table = t; saturation = c.self.inside.saturation } in o) c.meet_cells-there.new.pool) (sym table) (row-taken e c.self.invariant.0 c.args.pool.now ready r keeps c.meet_cells-there.new.pool pool))
 
 pub returns-then-is_empty-clause-none : goal.returns-then-is_empty-clause-none
 returns-then-is_empty-clause-none g c =
@@ -117,7 +117,7 @@ returns-then-is_empty-clause-none g c =
 
 pub returns-then-is_empty-clause-steps : goal.returns-then-is_empty-clause-steps
 returns-then-is_empty-clause-steps g c =
-    let e : ExecutorValue = record { query = c.self.inside.query; shared = c.self.inside.shared; plan = c.self.inside.plan; extent = c.self.inside.extent; given = c.self.inside.given; table = c.self.inside.table; saturation = c.self.inside.saturation } in
+    let e : ExecutorValue = record { query = c.self.inside.planned.query; shared = c.self.inside.shared; plan = c.self.inside.planned.plan; extent = c.self.inside.planned.extent; given = c.self.inside.given; table = c.self.inside.table; saturation = c.self.inside.saturation } in
     let r = arrival c.args.stream c.args.row.now.items in
     let d = c.in-Some.direct.now in
     let is_direct : IsDirect e.query (parts_of e.plan) d
@@ -135,7 +135,7 @@ returns-then-is_empty-clause-steps g c =
 
 pub returns-clause-took : goal.returns-clause-took
 returns-clause-took g c =
-    let e : ExecutorValue = record { query = c.self.inside.query; shared = c.self.inside.shared; plan = c.self.inside.plan; extent = c.self.inside.extent; given = c.self.inside.given; table = c.self.inside.table; saturation = c.self.inside.saturation } in
+    let e : ExecutorValue = record { query = c.self.inside.planned.query; shared = c.self.inside.shared; plan = c.self.inside.planned.plan; extent = c.self.inside.planned.extent; given = c.self.inside.given; table = c.self.inside.table; saturation = c.self.inside.saturation } in
     let r = arrival c.args.stream c.args.row.now.items in
     let d = c.in-Some.direct.now in
     let is_direct : IsDirect e.query (parts_of e.plan) d
@@ -152,12 +152,12 @@ returns-clause-took g c =
     = subst (λ (p : Plan). HasTaken e.query (parts_of p) e.extent r (length (parts_of p)) c.args.pool.now c.meet_cells-there.new.pool) (sym c.in-PointLookup-Parts.is-1)
     (subst (λ (x : Arrival). HasTaken e.query c.in-PointLookup-Parts.parts e.extent x (length c.in-PointLookup-Parts.parts) c.args.pool.now c.meet_cells-there.new.pool)
     (sym (direct-arrives e.query (parts_of e.plan) d is_direct c.args.stream c.in-Some.ensures.1 c.args.row.now.items)) c.meet_cells-there.ensures.pool) in
-    subst (λ (x : ExecutorValue). TakesRow x c.args.pool.now r (let o : ExecutorValue = record { query = c.self.inside.query; shared = c.self.inside.shared; plan = c.self.inside.plan; extent = c.self.inside.extent; given = c.self.inside.given + 1; table = c.take_up_anew.new.table; saturation = c.self.inside.saturation } in o) c.meet_cells-there.new.pool) c.self.view_is
-    (subst (λ (t : TableValue). TakesRow e c.args.pool.now r (let o : ExecutorValue = record { query = c.self.inside.query; shared = c.self.inside.shared; plan = c.self.inside.plan; extent = c.self.inside.extent; given = c.self.inside.given + 1; table = t; saturation = c.self.inside.saturation } in o) c.meet_cells-there.new.pool) (sym table) (row-taken e c.self.invariant.0 c.args.pool.now ready r keeps c.meet_cells-there.new.pool pool))
+    subst (λ (x : ExecutorValue). TakesRow x c.args.pool.now r (let o : ExecutorValue = record { query = c.self.inside.planned.query; shared = c.self.inside.shared; plan = c.self.inside.planned.plan; extent = c.self.inside.planned.extent; given = c.self.inside.given + 1; table = c.take_up_anew.new.table; saturation = c.self.inside.saturation } in o) c.meet_cells-there.new.pool) c.self.view_is
+    (subst (λ (t : TableValue). TakesRow e c.args.pool.now r (let o : ExecutorValue = record { query = c.self.inside.planned.query; shared = c.self.inside.shared; plan = c.self.inside.planned.plan; extent = c.self.inside.planned.extent; given = c.self.inside.given + 1; table = t; saturation = c.self.inside.saturation } in o) c.meet_cells-there.new.pool) (sym table) (row-taken e c.self.invariant.0 c.args.pool.now ready r keeps c.meet_cells-there.new.pool pool))
 
 pub returns-clause-steps : goal.returns-clause-steps
 returns-clause-steps g c =
-    let e : ExecutorValue = record { query = c.self.inside.query; shared = c.self.inside.shared; plan = c.self.inside.plan; extent = c.self.inside.extent; given = c.self.inside.given; table = c.self.inside.table; saturation = c.self.inside.saturation } in
+    let e : ExecutorValue = record { query = c.self.inside.planned.query; shared = c.self.inside.shared; plan = c.self.inside.planned.plan; extent = c.self.inside.planned.extent; given = c.self.inside.given; table = c.self.inside.table; saturation = c.self.inside.saturation } in
     let r = arrival c.args.stream c.args.row.now.items in
     let d = c.in-Some.direct.now in
     let is_direct : IsDirect e.query (parts_of e.plan) d

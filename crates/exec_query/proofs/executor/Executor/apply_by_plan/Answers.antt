@@ -21,7 +21,7 @@ use Rattle.exec_query.proofs.executor.Executor.apply_by_plan.Goals.{in-Before, i
 
 pub returns-then-waiting_len-eq0-clause-took : goal.returns-then-waiting_len-eq0-clause-took
 returns-then-waiting_len-eq0-clause-took g c =
-    let e : ExecutorValue = record { query = c.self.inside.query; shared = c.self.inside.shared; plan = c.self.inside.plan; extent = c.self.inside.extent; given = c.self.inside.given; table = c.self.inside.table; saturation = c.self.inside.saturation } in
+    let e : ExecutorValue = record { query = c.self.inside.planned.query; shared = c.self.inside.shared; plan = c.self.inside.planned.plan; extent = c.self.inside.planned.extent; given = c.self.inside.given; table = c.self.inside.table; saturation = c.self.inside.saturation } in
     let r = arrival c.args.stream c.args.row.now.items in
     let none : waiting_entries e.table.entries ≡ [] = none-long c.waiting_len.result (waiting_entries e.table.entries) c.waiting_len.ensures c.if-waiting_len-eq0.true in
     let refused : IsRefused e.query e.plan r = c.self.invariant.2 r (sym c.passes.ensures ∙ c.if-not-passes.true) in
@@ -31,14 +31,14 @@ returns-then-waiting_len-eq0-clause-took g c =
 
 pub returns-then-waiting_len-eq0-clause-none : goal.returns-then-waiting_len-eq0-clause-none
 returns-then-waiting_len-eq0-clause-none g c = λ told.
-    let e : ExecutorValue = record { query = c.self.inside.query; shared = c.self.inside.shared; plan = c.self.inside.plan; extent = c.self.inside.extent; given = c.self.inside.given; table = c.self.inside.table; saturation = c.self.inside.saturation } in
+    let e : ExecutorValue = record { query = c.self.inside.planned.query; shared = c.self.inside.shared; plan = c.self.inside.planned.plan; extent = c.self.inside.planned.extent; given = c.self.inside.given; table = c.self.inside.table; saturation = c.self.inside.saturation } in
     let r = arrival c.args.stream c.args.row.now.items in
     let none : waiting_entries e.table.entries ≡ [] = none-long c.waiting_len.result (waiting_entries e.table.entries) c.waiting_len.ensures c.if-waiting_len-eq0.true in
     quiet-spelled e.table.entries none
 
 pub apply_along-requires-clause-ready : goal.apply_along-requires-clause-ready
 apply_along-requires-clause-ready g c =
-    let e : ExecutorValue = record { query = c.self-2.inside.query; shared = c.self-2.inside.shared; plan = c.self-2.inside.plan; extent = c.self-2.inside.extent; given = c.self-2.inside.given; table = c.self-2.inside.table; saturation = c.self-2.inside.saturation } in
+    let e : ExecutorValue = record { query = c.self-2.inside.planned.query; shared = c.self-2.inside.shared; plan = c.self-2.inside.planned.plan; extent = c.self-2.inside.planned.extent; given = c.self-2.inside.given; table = c.self-2.inside.table; saturation = c.self-2.inside.saturation } in
     let r = arrival c.args.stream c.args.row.now.items in
     let looked : HasLooked c.args.self.now c.args.pool.now c.args.stream c.match-self.self c.args.steps.now c.match-self.steps
     = elim c.match-self.branch [
@@ -51,7 +51,7 @@ apply_along-requires-clause-ready g c =
 
 pub apply_along-requires-clause-known : goal.apply_along-requires-clause-known
 apply_along-requires-clause-known g c = λ known.
-    let e : ExecutorValue = record { query = c.self-2.inside.query; shared = c.self-2.inside.shared; plan = c.self-2.inside.plan; extent = c.self-2.inside.extent; given = c.self-2.inside.given; table = c.self-2.inside.table; saturation = c.self-2.inside.saturation } in
+    let e : ExecutorValue = record { query = c.self-2.inside.planned.query; shared = c.self-2.inside.shared; plan = c.self-2.inside.planned.plan; extent = c.self-2.inside.planned.extent; given = c.self-2.inside.given; table = c.self-2.inside.table; saturation = c.self-2.inside.saturation } in
     let r = arrival c.args.stream c.args.row.now.items in
     let looked : HasLooked c.args.self.now c.args.pool.now c.args.stream c.match-self.self c.args.steps.now c.match-self.steps
     = elim c.match-self.branch [
@@ -66,7 +66,7 @@ apply_along-requires-clause-known g c = λ known.
 
 pub apply_along-requires-clause-room : goal.apply_along-requires-clause-room
 apply_along-requires-clause-room g c =
-    let e : ExecutorValue = record { query = c.self-2.inside.query; shared = c.self-2.inside.shared; plan = c.self-2.inside.plan; extent = c.self-2.inside.extent; given = c.self-2.inside.given; table = c.self-2.inside.table; saturation = c.self-2.inside.saturation } in
+    let e : ExecutorValue = record { query = c.self-2.inside.planned.query; shared = c.self-2.inside.shared; plan = c.self-2.inside.planned.plan; extent = c.self-2.inside.planned.extent; given = c.self-2.inside.given; table = c.self-2.inside.table; saturation = c.self-2.inside.saturation } in
     let r = arrival c.args.stream c.args.row.now.items in
     let looked : HasLooked c.args.self.now c.args.pool.now c.args.stream c.match-self.self c.args.steps.now c.match-self.steps
     = elim c.match-self.branch [
@@ -83,7 +83,7 @@ apply_along-requires-clause-room g c =
 
 pub invariant_of-self-2 : goal.invariant_of-self-2
 invariant_of-self-2 g c =
-    let e : ExecutorValue = record { query = c.self-2.inside.query; shared = c.self-2.inside.shared; plan = c.self-2.inside.plan; extent = c.self-2.inside.extent; given = c.self-2.inside.given; table = c.self-2.inside.table; saturation = c.self-2.inside.saturation } in
+    let e : ExecutorValue = record { query = c.self-2.inside.planned.query; shared = c.self-2.inside.shared; plan = c.self-2.inside.planned.plan; extent = c.self-2.inside.planned.extent; given = c.self-2.inside.given; table = c.self-2.inside.table; saturation = c.self-2.inside.saturation } in
     let r = arrival c.args.stream c.args.row.now.items in
     let looked : HasLooked c.args.self.now c.args.pool.now c.args.stream c.match-self.self c.args.steps.now c.match-self.steps
     = elim c.match-self.branch [
@@ -105,7 +105,7 @@ invariant_of-self-2 g c =
 
 pub returns-clause-took : goal.returns-clause-took
 returns-clause-took g c =
-    let e : ExecutorValue = record { query = c.self-2.inside.query; shared = c.self-2.inside.shared; plan = c.self-2.inside.plan; extent = c.self-2.inside.extent; given = c.self-2.inside.given; table = c.self-2.inside.table; saturation = c.self-2.inside.saturation } in
+    let e : ExecutorValue = record { query = c.self-2.inside.planned.query; shared = c.self-2.inside.shared; plan = c.self-2.inside.planned.plan; extent = c.self-2.inside.planned.extent; given = c.self-2.inside.given; table = c.self-2.inside.table; saturation = c.self-2.inside.saturation } in
     let r = arrival c.args.stream c.args.row.now.items in
     let looked : HasLooked c.args.self.now c.args.pool.now c.args.stream c.match-self.self c.args.steps.now c.match-self.steps
     = elim c.match-self.branch [
@@ -131,7 +131,7 @@ returns-clause-none g c = λ told.
 
 pub returns-clause-steps : goal.returns-clause-steps
 returns-clause-steps g c =
-    let e : ExecutorValue = record { query = c.self-2.inside.query; shared = c.self-2.inside.shared; plan = c.self-2.inside.plan; extent = c.self-2.inside.extent; given = c.self-2.inside.given; table = c.self-2.inside.table; saturation = c.self-2.inside.saturation } in
+    let e : ExecutorValue = record { query = c.self-2.inside.planned.query; shared = c.self-2.inside.shared; plan = c.self-2.inside.planned.plan; extent = c.self-2.inside.planned.extent; given = c.self-2.inside.given; table = c.self-2.inside.table; saturation = c.self-2.inside.saturation } in
     let r = arrival c.args.stream c.args.row.now.items in
     let looked : HasLooked c.args.self.now c.args.pool.now c.args.stream c.match-self.self c.args.steps.now c.match-self.steps
     = elim c.match-self.branch [

@@ -18,12 +18,12 @@ use Rattle.exec_query.proofs.executor.Executor.load_cell.Goals.{in-Some, in-None
 
 pub cell_to_load-requires : goal.cell_to_load-requires
 cell_to_load-requires g c =
-    let e : ExecutorValue = record { query = c.self.inside.query; shared = c.self.inside.shared; plan = c.self.inside.plan; extent = c.self.inside.extent; given = c.self.inside.given; table = c.self.inside.table; saturation = c.self.inside.saturation } in
+    let e : ExecutorValue = record { query = c.self.inside.planned.query; shared = c.self.inside.shared; plan = c.self.inside.planned.plan; extent = c.self.inside.planned.extent; given = c.self.inside.given; table = c.self.inside.table; saturation = c.self.inside.saturation } in
     based_in e.shared e.query e.plan (serving_in e c.self.invariant.0)
 
 pub fill-filled-requires-clause-within : goal.fill-filled-requires-clause-within
 fill-filled-requires-clause-within g c =
-    let e : ExecutorValue = record { query = c.self.inside.query; shared = c.self.inside.shared; plan = c.self.inside.plan; extent = c.self.inside.extent; given = c.self.inside.given; table = c.self.inside.table; saturation = c.self.inside.saturation } in
+    let e : ExecutorValue = record { query = c.self.inside.planned.query; shared = c.self.inside.shared; plan = c.self.inside.planned.plan; extent = c.self.inside.planned.extent; given = c.self.inside.given; table = c.self.inside.table; saturation = c.self.inside.saturation } in
     let live : IsLive c.args.pool.now e.extent = subst (λ (x : ExecutorValue). IsLive c.args.pool.now x.extent) (sym c.self.view_is) c.requires.live in
     let told : option_and_then (λ kind. filled_cell c.self.inside.given kind c.args.v) (kind_at (list_in e) c.args.i) ≡ c.cell_to_load.result
     = ap (λ (z : ℤ). option_and_then (λ kind. filled_cell c.self.inside.given kind z) (kind_at (list_in e) c.args.i)) (sym (to_z-of_z w64 c.args.v (search rules))) ∙ sym c.cell_to_load.ensures in
@@ -31,7 +31,7 @@ fill-filled-requires-clause-within g c =
 
 pub returns-clause-loads : goal.returns-clause-loads
 returns-clause-loads g c =
-    let e : ExecutorValue = record { query = c.self.inside.query; shared = c.self.inside.shared; plan = c.self.inside.plan; extent = c.self.inside.extent; given = c.self.inside.given; table = c.self.inside.table; saturation = c.self.inside.saturation } in
+    let e : ExecutorValue = record { query = c.self.inside.planned.query; shared = c.self.inside.shared; plan = c.self.inside.planned.plan; extent = c.self.inside.planned.extent; given = c.self.inside.given; table = c.self.inside.table; saturation = c.self.inside.saturation } in
     let live : IsLive c.args.pool.now e.extent = subst (λ (x : ExecutorValue). IsLive c.args.pool.now x.extent) (sym c.self.view_is) c.requires.live in
     let told : option_and_then (λ kind. filled_cell c.self.inside.given kind c.args.v) (kind_at (list_in e) c.args.i) ≡ c.cell_to_load.result
     = ap (λ (z : ℤ). option_and_then (λ kind. filled_cell c.self.inside.given kind z) (kind_at (list_in e) c.args.i)) (sym (to_z-of_z w64 c.args.v (search rules))) ∙ sym c.cell_to_load.ensures in
@@ -49,7 +49,7 @@ returns-clause-loads g c =
 
 pub returns-clause-kept : goal.returns-clause-kept
 returns-clause-kept g c =
-    let e : ExecutorValue = record { query = c.self.inside.query; shared = c.self.inside.shared; plan = c.self.inside.plan; extent = c.self.inside.extent; given = c.self.inside.given; table = c.self.inside.table; saturation = c.self.inside.saturation } in
+    let e : ExecutorValue = record { query = c.self.inside.planned.query; shared = c.self.inside.shared; plan = c.self.inside.planned.plan; extent = c.self.inside.planned.extent; given = c.self.inside.given; table = c.self.inside.table; saturation = c.self.inside.saturation } in
     let live : IsLive c.args.pool.now e.extent = subst (λ (x : ExecutorValue). IsLive c.args.pool.now x.extent) (sym c.self.view_is) c.requires.live in
     let told : option_and_then (λ kind. filled_cell c.self.inside.given kind c.args.v) (kind_at (list_in e) c.args.i) ≡ c.cell_to_load.result
     = ap (λ (z : ℤ). option_and_then (λ kind. filled_cell c.self.inside.given kind z) (kind_at (list_in e) c.args.i)) (sym (to_z-of_z w64 c.args.v (search rules))) ∙ sym c.cell_to_load.ensures in
@@ -67,7 +67,7 @@ returns-clause-kept g c =
 
 pub returns-clause-within : goal.returns-clause-within
 returns-clause-within g c =
-    let e : ExecutorValue = record { query = c.self.inside.query; shared = c.self.inside.shared; plan = c.self.inside.plan; extent = c.self.inside.extent; given = c.self.inside.given; table = c.self.inside.table; saturation = c.self.inside.saturation } in
+    let e : ExecutorValue = record { query = c.self.inside.planned.query; shared = c.self.inside.shared; plan = c.self.inside.planned.plan; extent = c.self.inside.planned.extent; given = c.self.inside.given; table = c.self.inside.table; saturation = c.self.inside.saturation } in
     let live : IsLive c.args.pool.now e.extent = subst (λ (x : ExecutorValue). IsLive c.args.pool.now x.extent) (sym c.self.view_is) c.requires.live in
     let told : option_and_then (λ kind. filled_cell c.self.inside.given kind c.args.v) (kind_at (list_in e) c.args.i) ≡ c.cell_to_load.result
     = ap (λ (z : ℤ). option_and_then (λ kind. filled_cell c.self.inside.given kind z) (kind_at (list_in e) c.args.i)) (sym (to_z-of_z w64 c.args.v (search rules))) ∙ sym c.cell_to_load.ensures in
@@ -85,7 +85,7 @@ returns-clause-within g c =
 
 pub returns-clause-reads : goal.returns-clause-reads
 returns-clause-reads g c =
-    let e : ExecutorValue = record { query = c.self.inside.query; shared = c.self.inside.shared; plan = c.self.inside.plan; extent = c.self.inside.extent; given = c.self.inside.given; table = c.self.inside.table; saturation = c.self.inside.saturation } in
+    let e : ExecutorValue = record { query = c.self.inside.planned.query; shared = c.self.inside.shared; plan = c.self.inside.planned.plan; extent = c.self.inside.planned.extent; given = c.self.inside.given; table = c.self.inside.table; saturation = c.self.inside.saturation } in
     let live : IsLive c.args.pool.now e.extent = subst (λ (x : ExecutorValue). IsLive c.args.pool.now x.extent) (sym c.self.view_is) c.requires.live in
     let told : option_and_then (λ kind. filled_cell c.self.inside.given kind c.args.v) (kind_at (list_in e) c.args.i) ≡ c.cell_to_load.result
     = ap (λ (z : ℤ). option_and_then (λ kind. filled_cell c.self.inside.given kind z) (kind_at (list_in e) c.args.i)) (sym (to_z-of_z w64 c.args.v (search rules))) ∙ sym c.cell_to_load.ensures in
@@ -99,7 +99,7 @@ returns-clause-reads g c =
 
 pub returns-clause-writes : goal.returns-clause-writes
 returns-clause-writes g c =
-    let e : ExecutorValue = record { query = c.self.inside.query; shared = c.self.inside.shared; plan = c.self.inside.plan; extent = c.self.inside.extent; given = c.self.inside.given; table = c.self.inside.table; saturation = c.self.inside.saturation } in
+    let e : ExecutorValue = record { query = c.self.inside.planned.query; shared = c.self.inside.shared; plan = c.self.inside.planned.plan; extent = c.self.inside.planned.extent; given = c.self.inside.given; table = c.self.inside.table; saturation = c.self.inside.saturation } in
     let live : IsLive c.args.pool.now e.extent = subst (λ (x : ExecutorValue). IsLive c.args.pool.now x.extent) (sym c.self.view_is) c.requires.live in
     let told : option_and_then (λ kind. filled_cell c.self.inside.given kind c.args.v) (kind_at (list_in e) c.args.i) ≡ c.cell_to_load.result
     = ap (λ (z : ℤ). option_and_then (λ kind. filled_cell c.self.inside.given kind z) (kind_at (list_in e) c.args.i)) (sym (to_z-of_z w64 c.args.v (search rules))) ∙ sym c.cell_to_load.ensures in

@@ -15,25 +15,25 @@ use Rattle.exec_query.proofs.executor.Executor.look_on.Goals as goal
 
 pub look_beside_row-self-inside-requires-clause-look : goal.look_beside_row-self-inside-requires-clause-look
 look_beside_row-self-inside-requires-clause-look g c =
-    let e : ExecutorValue = record { query = c.self.inside.query; shared = c.self.inside.shared; plan = c.self.inside.plan; extent = c.self.inside.extent; given = c.self.inside.given; table = c.self.inside.table; saturation = c.self.inside.saturation } in
+    let e : ExecutorValue = record { query = c.self.inside.planned.query; shared = c.self.inside.shared; plan = c.self.inside.planned.plan; extent = c.self.inside.planned.extent; given = c.self.inside.given; table = c.self.inside.table; saturation = c.self.inside.saturation } in
     let ready : IsReady e c.args.pool.now = subst (λ (x : ExecutorValue). IsReady x c.args.pool.now) (sym c.self.view_is) c.requires.ready in
     let sound = c.self.invariant.0 in
-    can-look-at e.query e.plan c.self.inside.prepared c.args.pool.now e.extent e.table.width (ready_row e sound c.args.pool.now ready (arrival 0 []) sound.ascends)
+    can-look-at e.query e.plan c.self.inside.planned.prepared c.args.pool.now e.extent e.table.width (ready_row e sound c.args.pool.now ready (arrival 0 []) sound.ascends)
     (announces-work e.shared e.query e.plan (serving_in e sound)) c.self.invariant.1 sound.width
 
 pub look_beside_row-self-inside-requires-clause-known : goal.look_beside_row-self-inside-requires-clause-known
 look_beside_row-self-inside-requires-clause-known g c = λ d.
-    let e : ExecutorValue = record { query = c.self.inside.query; shared = c.self.inside.shared; plan = c.self.inside.plan; extent = c.self.inside.extent; given = c.self.inside.given; table = c.self.inside.table; saturation = c.self.inside.saturation } in
+    let e : ExecutorValue = record { query = c.self.inside.planned.query; shared = c.self.inside.shared; plan = c.self.inside.planned.plan; extent = c.self.inside.planned.extent; given = c.self.inside.given; table = c.self.inside.table; saturation = c.self.inside.saturation } in
     let ready : IsReady e c.args.pool.now = subst (λ (x : ExecutorValue). IsReady x c.args.pool.now) (sym c.self.view_is) c.requires.ready in
     subst (λ (s : Saturation). AreSaturated s e.query (parts_in e) (read_from (cells_of c.args.pool.now e.extent)) (tuples_in e)) (ap (λ (x : ExecutorValue). x.saturation) c.self.view_is ∙ c.requires.here)
     (known-in-extent e c.self.invariant.0 c.args.pool.now ready d)
 
 pub returns : goal.returns
 returns g c =
-    let e : ExecutorValue = record { query = c.self.inside.query; shared = c.self.inside.shared; plan = c.self.inside.plan; extent = c.self.inside.extent; given = c.self.inside.given; table = c.self.inside.table; saturation = c.self.inside.saturation } in
+    let e : ExecutorValue = record { query = c.self.inside.planned.query; shared = c.self.inside.shared; plan = c.self.inside.planned.plan; extent = c.self.inside.planned.extent; given = c.self.inside.given; table = c.self.inside.table; saturation = c.self.inside.saturation } in
     let ready : IsReady e c.args.pool.now = subst (λ (x : ExecutorValue). IsReady x c.args.pool.now) (sym c.self.view_is) c.requires.ready in
     let looked = c.look_beside_row-self-inside in
-    let later : ExecutorValue = record { query = c.self.inside.query; shared = c.self.inside.shared; plan = c.self.inside.plan; extent = c.self.inside.extent; given = c.self.inside.given; table = c.self.inside.table; saturation = looked.result } in
+    let later : ExecutorValue = record { query = c.self.inside.planned.query; shared = c.self.inside.shared; plan = c.self.inside.planned.plan; extent = c.self.inside.planned.extent; given = c.self.inside.given; table = c.self.inside.table; saturation = looked.result } in
     let own : HasLooked e c.args.pool.now c.args.stream later c.args.steps.now looked.new.steps
     = record {
       same = refl;
