@@ -10,7 +10,7 @@ pub mod ModelLaws
 pub mod NothingLaws
 pub mod OneEach
 pub mod RepeatLaws
-pub mod RunLaws
+pub mod BoundLaws
 pub mod StartLaws
 pub mod StepLaws
 pub mod UnderwayLaws

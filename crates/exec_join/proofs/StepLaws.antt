@@ -5,7 +5,7 @@ use Rattle.std.specs.Prelude.{Option, Some, None, int_le, slice_index_or}
 use Rattle.std.specs.List.{list_any}
 use Rattle.std.proofs.lemmas.Bool.Decides.{nat_tests}
 use Rattle.std.proofs.Math.Nat.{mul-le-mul}
-use Rattle.std.proofs.lemmas.List.{length-take, take_more, drop_more, drop_all}
+use Rattle.std.proofs.lemmas.List.{length-take, take_more}
 use Rattle.sem_query.specs.Boxes.{box, place_of, dim_size, box_size, values_at, AreInside}
 use Rattle.sem_query.specs.declared.atom.Attr.{Attr}
 use Rattle.sem_query.specs.declared.part.Pair.{Pair}
@@ -34,15 +34,19 @@ use Rattle.exec_pool.specs.declared.scan.StridedCells.{StridedCells}
 use Rattle.exec_pool.specs.Strides.{at_stride}
 use Rattle.exec_ranges.specs.Lined.{IsLine}
 use Rattle.exec_synopsis.specs.Premises.{IsLaidOut, AreFitting}
-use Rattle.exec_join.specs.Runs.{free_dim}
 use Rattle.exec_join.specs.Remaining.{left_of, outer_of, IsPlaced, WentBack, HasEntered, ended, popped, AreLight, limit, as_found}
 use Rattle.exec_join.proofs.WalkLaws.{left-skip, left-back, left-past, left-whole, left-enter, outer-none}
 use Rattle.exec_join.proofs.CostLaws.{cost-skip, cost-back, cost-end, cost-next, cost-enter}
 use Rattle.exec_ranges.proofs.NarrowLaws.{clip-narrower, one-value}
 use Rattle.exec_ranges.proofs.DimLaws.{dims-beside, inside-narrowed}
 
+-- a dim counts with all its values where no known column fixes it, and else with one
+abbrev free_dim : Dim → Option Attr → ℕ
+free_dim d None = dim_size d
+free_dim d (Some a) = 1
+
 -- how many combinations of values there are of dims, of each that a known column fixes one
-abbrev pub free_product : ℕ → ℕ → List Link → List Dim → ℕ
+abbrev free_product : ℕ → ℕ → List Link → List Dim → ℕ
 free_product arriving place links [] = 1
 free_product arriving place links (d ∷ ds) = free_dim d (binding_column arriving place d.attr links) * free_product arriving place links ds
 
@@ -71,7 +75,7 @@ free-filter arriving place links (d ∷ ds) =
     by true = omega arith
     by false = refl
 
-pub free-tried : (part : PartPlan) (arriving place : ℕ) → free_product arriving place part.equal.items (dims_in part arriving place) ≡ tried_size part arriving place
+free-tried : (part : PartPlan) (arriving place : ℕ) → free_product arriving place part.equal.items (dims_in part arriving place) ≡ tried_size part arriving place
 unfolding dims_in tried_size
 free-tried part arriving place = by (place == arriving)
   where
@@ -95,26 +99,6 @@ dims-other part arriving place other = by (place == arriving) refl
 pub tried-open : (part : PartPlan) (arriving place : ℕ) → part.equal.items ≡ [] → place ≢ arriving → tried_size part arriving place ≡ box_size (dims_at part place)
 tried-open part arriving place none other =
     sym (free-tried part arriving place) ∙ (λ k. free_product arriving place (none k) (dims-other part arriving place other k)) ∙ free-open arriving place (dims_at part place)
-
--- one dim more
-pub free-next : (arriving place : ℕ) (links : List Link) (full : List Dim) (i : ℕ) (o : Dim) → i < length full → (count more : ℕ)
-    → more ≡ count * free_dim (get_or full i o) (binding_column arriving place (get_or full i o).attr links)
-    → count * free_product arriving place links (drop i full) ≡ free_product arriving place links full
-    → more * free_product arriving place links (drop (i + 1) full) ≡ free_product arriving place links full
-free-next arriving place links full i o l count more is so_far =
-    let F = free_dim (get_or full i o) (binding_column arriving place (get_or full i o).attr links) in
-    let R = free_product arriving place links (drop (i + 1) full) in
-    ap (λ n. n * R) is ∙ (let e : count * F * R ≡ count * (F * R) = omega arith in e) ∙ ap (λ (ds : List Dim). count * free_product arriving place links ds) (sym (drop_more full i o l)) ∙ so_far
-
--- all of them
-pub free-end : (part : PartPlan) (arriving place : ℕ) (full : List Dim) (i count : ℕ) → length full ≤ i → dims_in part arriving place ≡ full
-    → count * free_product arriving place part.equal.items (drop i full) ≡ free_product arriving place part.equal.items full
-    → count ≤ tried_size part arriving place
-free-end part arriving place full i count done is so_far =
-    let e = ap (λ (ds : List Dim). count * free_product arriving place part.equal.items ds) (drop_all i full done) in
-    let f = ap (free_product arriving place part.equal.items) is in
-    let t = free-tried part arriving place in
-    omega (arith, so_far, e, f, t)
 
 one-at-most : (d : Dim) (v : ℤ) (t : Bool) → dim_size (if t then record { attr = d.attr; lo = v; hi = v } else record { attr = d.attr; lo = pos 1; hi = pos 0 }) ≤ 1
 one-at-most d v true = omega (arith, one-value v)

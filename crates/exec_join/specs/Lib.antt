@@ -4,7 +4,5 @@ pub mod Choosing
 pub mod Costs
 pub mod Remaining
 pub mod Repeats
-pub mod Ahead
 pub mod Along
-pub mod Runs
 pub mod Joining

@@ -1,5 +1,5 @@
 //! Cells equally far apart that the links leave where a walk begins, and a look along them for the first that is not empty.
-ghost use Rattle.std.specs.Prelude.{◌≡◌, ◌≢◌, ◌⊎◌, ◌+◌, ◌*◌, ◌<◌, ◌≤◌, ◌^◌, ◌≤ℤ◌, [], length, true, false, IfSome};
+ghost use Rattle.std.specs.Prelude.{◌≡◌, ◌≢◌, ℤ, ◌⊎◌, ◌+◌, ◌*◌, ◌<◌, ◌≤◌, ◌^◌, ◌-ℤ◌, ◌≤ℤ◌, nat_abs, [], length, true, false, Some, IfSome};
 ghost use Rattle.sem_query.specs.Parts.{pairs};
 ghost use Rattle.sem_query.specs.Boxes.{dim_size, box_size};
 ghost use Rattle.sem_query.specs.Plan.{stream_at, dims_at};
@@ -8,15 +8,14 @@ ghost use Rattle.exec_ranges.specs.Narrowed.{narrowed_dims};
 ghost use Rattle.exec_ranges.specs.Values.{value_in};
 ghost use Rattle.exec_join.specs.Along.{IsLongerLine};
 ghost use Rattle.exec_join.specs.declared.along.Along.TheVariants as along;
-ghost use Rattle.exec_synopsis.specs.Narrowing.{narrow};
+ghost use Rattle.exec_synopsis.specs.Narrowing.{binding_column, narrow};
 ghost use Rattle.exec_synopsis.specs.Premises.{IsLaidOut};
 ghost use Rattle.exec_synopsis.specs.Preparing.{IsPrepared};
 
-use crate::run::bound_place;
 use exec_pool::Occupied;
-use exec_ranges::{Binding, RowAt, dim_size};
-use exec_synopsis::{binding_column, stream_at};
-use sem_query::{Dim, Link};
+use exec_ranges::{Binding, RowAt, dim_size, value_in};
+use exec_synopsis::{binding_column, offset, stream_at};
+use sem_query::{Attr, Dim, Link};
 
 /// So many cells from one on, equally far apart.
 #[derive(Clone, Copy, Debug, PartialEq, Eq, Drop)]
@@ -58,6 +57,23 @@ pub fn is_nothing(seen: Along) -> bool
         Along::Nothing => true,
         Along::Found(_) => false,
     }
+}
+
+// The place in a dim of the value of the known column that it equals, where that is one of its values.
+fn bound_place(at: &RowAt<'_>, known: &[Binding], dim: Dim, column: Attr) -> Option<u32>
+    requires prepared { IsPrepared (pairs at.now.q.now) at.now.part.now at.now.prepared.now }
+    requires few { dim_size dim < 2 ^ 32 }
+    requires bound { binding_column at.now.arriving (length known.now) dim.attr at.now.part.now.equal.items ≡ Some column }
+    ensures { IfSome result (λ place. (place < dim_size dim) × ((v : ℤ) → (narrow at.now.arriving (length known.now) at.now.part.now.equal.items at.now.part.now.less.items (value_in (pairs at.now.q.now) at.now.part.now at.now.arriving at.now.row.now.items known.now) dim).lo ≤ℤ v → v ≤ℤ (narrow at.now.arriving (length known.now) at.now.part.now.equal.items at.now.part.now.less.items (value_in (pairs at.now.q.now) at.now.part.now at.now.arriving at.now.row.now.items known.now) dim).hi → nat_abs (v -ℤ dim.lo) ≡ place) × (dim_size (narrow at.now.arriving (length known.now) at.now.part.now.equal.items at.now.part.now.less.items (value_in (pairs at.now.q.now) at.now.part.now at.now.arriving at.now.row.now.items known.now) dim) ≡ 1)) }
+{
+    let value = value_in(at, known, column);
+    if value < dim.lo {
+        return None;
+    }
+    if dim.hi < value {
+        return None;
+    }
+    Some(offset(dim, value))
 }
 
 // The line with one dim more, where it stays one: known columns leave one value of the dim, or say nothing of it.

@@ -18,7 +18,6 @@ mod links;
 mod nothing;
 mod probe;
 mod repeats;
-mod run;
 mod scratch;
 mod stack;
 

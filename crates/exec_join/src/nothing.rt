@@ -21,10 +21,9 @@ use sem_query::Tuple;
 use std::sync::ledger::Ledger;
 
 /// Returns what is seen of the answers to a row before a walk begins, and puts the tuple where there is one. Where it is listed that one
-/// cell is left where a walk begins, there is none if that cell is empty, and over two streams that cell alone tells all; there is
-/// none where the cells are seen to be empty, side by side, that equalities leave where a walk begins; and none where the row's
-/// own columns leave no cell that holds anything where a walk ends. A walk may follow within three times the share of the part; over two
-/// streams it follows at most half the share.
+/// cell is left where a walk begins, there is none if that cell is empty, and over two streams that cell alone tells all; and there is none
+/// where the row's own columns leave no cell that holds anything where a walk ends. A walk may follow within three times the share of the
+/// part; over two streams it follows where no cell was read.
 pub fn look_before_walk<L: Ledger>(
     pool: &Pool,
     e: &Extent,
@@ -54,13 +53,10 @@ pub fn look_before_walk<L: Ledger>(
         return FirstLook::Unknown;
     }
     let Some(number) = room.first_cell(at) else {
-        if at.part.equal.as_slice().is_empty() {
-            if room.is_cut_off(pool, e, at.part, at.arriving, row, steps) {
-                return FirstLook::Nothing;
-            }
+        if !at.part.equal.as_slice().is_empty() {
             return FirstLook::Unknown;
         }
-        if room.is_clear_ahead(pool, e, at, steps) {
+        if room.is_cut_off(pool, e, at.part, at.arriving, row, steps) {
             return FirstLook::Nothing;
         }
         return FirstLook::Unknown;

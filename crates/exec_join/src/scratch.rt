@@ -7,7 +7,6 @@ ghost use Rattle.sem_query.specs.Parts.{pairs};
 ghost use Rattle.sem_query.specs.Plan.{stream_at, dims_at};
 ghost use Rattle.sem_query.specs.Probing.{found_beside};
 ghost use Rattle.exec_pool.specs.Extents.{cells_of, IsLive};
-ghost use Rattle.exec_join.specs.Ahead.{IsClearAhead};
 ghost use Rattle.exec_join.specs.Along.{SeenAlong, IsCandidate};
 ghost use Rattle.exec_join.specs.declared.along.Along.TheVariants as along;
 ghost use Rattle.exec_join.specs.Beside.{last_beside, IsEmptyBeside};
@@ -25,7 +24,6 @@ use crate::along::{Along, line_ahead};
 use crate::beside::leaves_nothing;
 use crate::join::FirstLook;
 use crate::links::{meets_links, tuple_of};
-use crate::run::run_of;
 use crate::stack::Bindings;
 use exec_pool::{Extent, Pool, Steps, StridedCells};
 use exec_ranges::{
@@ -188,35 +186,6 @@ impl ProbeScratch {
         }
         tuple_of(at, known, at.q.select(), tuple);
         FirstLook::One(rows_in(cell))
-    }
-
-    /// Tells whether the cells that the equalities leave where a walk begins are seen to be empty, where they stand side by side. A word of
-    /// marks that is looked at is one read, and they are no more than half the cells that a walk tries.
-    pub(crate) fn is_clear_ahead<L: Ledger>(
-        &self,
-        pool: &Pool,
-        e: &Extent,
-        at: &RowAt<'_>,
-        steps: &mut Steps<L>,
-    ) -> bool
-        requires chosen { self.now.chosen.items ≡ start at.now.arriving }
-        requires live { IsLive pool.now e.now }
-        requires prepared { IsPrepared (pairs at.now.q.now) at.now.part.now at.now.prepared.now }
-        requires laid { length (start at.now.arriving) < length at.now.part.now.streams.items → IsLaidOut (stream_at at.now.part.now (length (start at.now.arriving))) (64 * e.now.pages) }
-        ensures clear { result ≡ true → IsClearAhead (pairs at.now.q.now) at.now.part.now (read_from (cells_of pool.now e.now)) at.now.arriving at.now.row.now.items }
-        ensures reads { (steps.new.reads ≡ steps.old.reads) ⊎ ((length (start at.now.arriving) < length at.now.part.now.streams.items) × (2 * steps.new.reads ≤ 2 * steps.old.reads + tried_size at.now.part.now at.now.arriving (length (start at.now.arriving)))) }
-        ensures writes { steps.new.writes ≡ steps.old.writes }
-    {
-        if self.chosen.len() >= at.part.streams.as_slice().len() {
-            return false;
-        }
-        let Some(run) = run_of(at, self.chosen.as_slice()) else {
-            return false;
-        };
-        if !run.is_worth_a_look() {
-            return false;
-        }
-        pool.first_marked(e, run.first, run.count, steps).is_none()
     }
 
     /// Looks along the cells that the links leave where a walk begins, where they stand equally far apart: each that is seen is one read. Where all

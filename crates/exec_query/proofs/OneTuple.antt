@@ -1,6 +1,6 @@
 -- Where the row alone tells what a part answers to it: all that a walk finds is the one tuple, which changes nothing where it
 -- has an entry.
-use Rattle.std.proofs.Common.{◌≡◌, ℕ, zero, suc, ◌+◌, ◌<◌, ◌==◌, cond, Bool, true, false, ℤ, List, [], ◌∷◌, map, filter, length, refl, sym, ap, ◌∙◌, subst, arith, inl, inr}
+use Rattle.std.proofs.Common.{◌≡◌, ℕ, zero, suc, ◌+◌, ◌<◌, ◌==◌, cond, Bool, true, false, ℤ, List, [], ◌∷◌, map, filter, length, refl, ap, ◌∙◌, subst, arith, inl, inr}
 use Rattle.std.specs.List.{flat_map, range_with_len}
 use Rattle.sem_query.specs.declared.plan.PartPlan.{PartPlan}
 use Rattle.sem_query.specs.Query.{QueryValue}
@@ -10,12 +10,12 @@ use Rattle.sem_query.specs.Plan.{dims_at}
 use Rattle.sem_query.specs.Numbers.{places}
 use Rattle.sem_query.specs.Combinations.{Choice, choice, choice_of, Reading, Found, found, chosen_values, linked}
 use Rattle.sem_query.specs.Probing.{choices_beside, found_beside}
-use Rattle.sem_query.proofs.Has.{Has, first, later, Has-map_from, Has-filter_from}
+use Rattle.sem_query.proofs.Has.{Has, Has-map_from, Has-filter_from}
 use Rattle.sem_laws.proofs.OnePartFits.{has_cases}
 use Rattle.sem_laws.proofs.Extremes.{flat_map-from}
 use Rattle.sem_laws.proofs.Tests.{filter-passes}
-use Rattle.exec_answer_table.specs.Entries.{Entry, TableValue, with_entries, changed, added, has}
-use Rattle.exec_query.specs.FoundTable.{with_found, with_all}
+use Rattle.exec_answer_table.specs.Entries.{Entry, changed, has}
+use Rattle.exec_query.specs.FoundTable.{with_found}
 use Rattle.exec_point_lookup.specs.Known.{AreKnown}
 use Rattle.exec_query.proofs.TableLaws.{has_changed_same}
 
@@ -64,15 +64,6 @@ module _ (q : QueryValue) (part : PartPlan) (read : Reading) (pos : ℕ) (row : 
         own = λ a s. ap (λ k. at_place (map (λ c. c.values) m.0) k a.column) s ∙ ap (λ (w : ℕ → ℤ). w a.column) own;
       })
 
--- a find of a tuple that has an entry changes nothing
-all_old : (t : List ℤ) (fs : List Found) (es : List Entry) → ((f : Found) → Has fs f → f.tuple ≡ t) → has t es ≡ true → with_all true fs es ≡ es
-unfolding with_all
-all_old t [] es same h = refl
-all_old t (f ∷ fs) es same h =
-    let own : has f.tuple es ≡ true = ap (λ u. has u es) (same f first) ∙ h in
-    let step : with_found true f es ≡ es = ap (λ b. cond b es (added f.tuple 1 es)) own in
-    ap (with_all true fs) step ∙ all_old t fs es (λ g k. same g (later k)) h
-
 -- a tuple that was found has an entry
 pub found_has : (f : Found) (es : List Entry) → has f.tuple (with_found true f es) ≡ true
 found_has f es = at (has f.tuple es) refl
@@ -80,17 +71,3 @@ found_has f es = at (has f.tuple es) refl
     at : (b : Bool) → has f.tuple es ≡ b → has f.tuple (cond b es (changed (λ waiting. waiting + 1) f.tuple es)) ≡ true
     at true e = e
     at false e = has_changed_same f.tuple (λ waiting. waiting + 1) es
-
--- so after the first find nothing changes
-pub first_alone : (d : Bool) (t : List ℤ) (f : Found) (fs others : List Found) (table more : TableValue) → d ≡ true → fs ≡ f ∷ others
-    → ((g : Found) → Has fs g → g.tuple ≡ t) → more ≡ with_entries table (with_found true f table.entries)
-    → more ≡ with_entries table (with_all d fs table.entries)
-unfolding with_all
-first_alone d t f fs others table more e is same next =
-    let each : (g : Found) → Has (f ∷ others) g → g.tuple ≡ t = subst (λ gs. (g : Found) → Has gs g → g.tuple ≡ t) is same in
-    let rest : with_all true others (with_found true f table.entries) ≡ with_found true f table.entries
-    = all_old f.tuple others (with_found true f table.entries) (λ g k. each g (later k) ∙ sym (each f first)) (found_has f table.entries) in
-    next
-    ∙ ap (with_entries table) (sym rest)
-    ∙ ap (λ (gs : List Found). with_entries table (with_all true gs table.entries)) (sym is)
-    ∙ ap (λ b. with_entries table (with_all b fs table.entries)) (sym e)

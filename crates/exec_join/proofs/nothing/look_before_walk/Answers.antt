@@ -19,7 +19,6 @@ use Rattle.exec_join.specs.Walk.{walk}
 use Rattle.exec_ranges.specs.Lined.{AreFixed}
 use Rattle.exec_synopsis.specs.Premises.{IsReady}
 use Rattle.exec_ranges.specs.Narrowed.{narrowed_dims}
-use Rattle.exec_join.proofs.AheadLaws.{clear-ahead}
 use Rattle.exec_join.proofs.AloneLaws.{alone}
 use Rattle.exec_join.proofs.BesideLaws.{last-there, nothing-beside}
 use Rattle.exec_join.proofs.NothingLaws.{first-within, first-empty}
@@ -42,29 +41,6 @@ room-for-more : (q : QueryValue) (part : PartPlan) (pool : PoolValue) (e : Exten
 room-for-more q part pool e pos before within ready few reads most =
     let walked = ready.held.walked in
     look-and-walk q part pos walked (omega (arith, within, walked.plan.count)) few before reads most
-
--- what marks tell of a place reads no more than the share
-marks-few : (q : QueryValue) (part : PartPlan) (pool : PoolValue) (e : Extent) (pos before place : ℕ) → pos < length q.from → IsReady q part pool e
-    → (reads : ℕ) (A : Type 0) → (A → place < length part.streams.items) → (reads ≡ before) ⊎ (A × (reads ≤ before + tried_size part pos place)) → reads ≤ before + share part
-marks-few q part pool e pos before place within ready reads A there (inl same) = omega (arith, same)
-marks-few q part pool e pos before place within ready reads A there (inr some) =
-    (let walked = ready.held.walked in
-    let t = tried-share q part pos place walked (omega (arith, within, walked.plan.count)) (there some.0) in
-    let r = some.1 in omega (arith, t, r))
-
--- half of it is no more than all of it
-half-few : (before tried reads : ℕ) (A : Type 0) → (reads ≡ before) ⊎ (A × (2 * reads ≤ 2 * before + tried)) → (reads ≡ before) ⊎ (A × (reads ≤ before + tried))
-half-few before tried reads A (inl same) = inl same
-half-few before tried reads A (inr some) = inr (some.0, (let r = some.1 in omega (arith, r)))
-
--- and of marks that were looked at where a walk begins, half the share
-marks-half : (q : QueryValue) (part : PartPlan) (pool : PoolValue) (e : Extent) (pos before place : ℕ) → pos < length q.from → IsReady q part pool e
-    → (reads : ℕ) → (reads ≡ before) ⊎ ((place < length part.streams.items) × (2 * reads ≤ 2 * before + tried_size part pos place)) → 2 * reads ≤ 2 * before + share part
-marks-half q part pool e pos before place within ready reads (inl same) = omega (arith, same)
-marks-half q part pool e pos before place within ready reads (inr some) =
-    (let walked = ready.held.walked in
-    let t = tried-share q part pos place walked (omega (arith, within, walked.plan.count)) some.0 in
-    let r = some.1 in omega (arith, t, r))
 
 -- over two streams none is looked at where a walk ends
 cut-none : (part : PartPlan) (before reads more : ℕ) → length part.streams.items ≡ 2 → (reads ≡ before) ⊎ ((2 < length part.streams.items) × (part.equal.items ≡ []) × (reads ≤ before + more)) → 2 * reads ≤ 2 * before + share part
@@ -109,8 +85,8 @@ read-cell-requires-clause-within g c =
     let are = same-fixed (pairs q) _ part pos c.args.at.now.row.now.items _ c.first_cell.new.self.dims.items c.in-Some.number refl refl c.in-Some.ensures.first.1 in
     first-within q part held.walked pos c.args.at.now.row.now.items here c.in-Some.ensures.first.0 (64 * c.args.e.now.pages) held.within c.first_cell.new.self.dims.items c.in-Some.number are
 
-pub returns-then-is_empty-2-clause-found : goal.returns-then-is_empty-2-clause-found
-returns-then-is_empty-2-clause-found g c =
+pub returns-then-is_empty-clause-found : goal.returns-then-is_empty-clause-found
+returns-then-is_empty-clause-found g c =
     let q = c.args.at.now.q.now in
     let part = c.args.at.now.part.now in
     let pos = c.args.at.now.arriving in
@@ -118,7 +94,7 @@ returns-then-is_empty-2-clause-found g c =
     let here : pos < length part.streams.items = omega (arith, c.requires.here, held.walked.plan.count) in
     let are = same-fixed (pairs q) _ part pos c.args.at.now.row.now.items _ c.first_cell.new.self.dims.items c.in-Some.number refl refl c.in-Some.ensures.first.1 in
     first-empty q part held.walked pos c.args.at.now.row.now.items here c.in-Some.ensures.first.0 (64 * c.args.e.now.pages) held.within c.first_cell.new.self.dims.items c.in-Some.number are
-    (cells_of c.args.pool.now c.args.e.now) (sym (c.read-cell.ensures.cell Empty) ∙ c.is_empty-2.ensures.yes c.if-is_empty-2.true)
+    (cells_of c.args.pool.now c.args.e.now) (sym (c.read-cell.ensures.cell Empty) ∙ c.is_empty-2.ensures.yes c.if-is_empty.true)
 
 pub returns-clause-found : goal.returns-clause-found
 returns-clause-found g c =
@@ -134,11 +110,11 @@ returns-clause-found g c =
     let values = map (λ d. d.lo) c.first_cell.new.self.dims.items in
     let is : found_beside q part read pos (by_column row) ≡ walk (setting (pairs q) q.select part pos row read) 0 (both pos values c.read-cell.result)
     = alone q part held.walked pos row here c.in-Some.ensures.first.0 (64 * c.args.e.now.pages) held.within c.first_cell.new.self.dims.items c.in-Some.number are
-    (cells_of c.args.pool.now c.args.e.now) two c.read-cell.result (sym (c.read-cell.ensures.cell Empty)) (c.is_empty-2.ensures.no c.if-is_empty-2.false) in
+    (cells_of c.args.pool.now c.args.e.now) two c.read-cell.result (sym (c.read-cell.ensures.cell Empty)) (c.is_empty-2.ensures.no c.if-is_empty.false) in
     subst (λ (finds : List Found). Tells c.look_alone.result c.look_alone.new.tuple.items finds) (sym is) (c.look_alone.ensures.found read)
 
-pub returns-then-is_empty-2-clause-reads : goal.returns-then-is_empty-2-clause-reads
-returns-then-is_empty-2-clause-reads g c =
+pub returns-then-is_empty-clause-reads : goal.returns-then-is_empty-clause-reads
+returns-then-is_empty-clause-reads g c =
     room-for-more c.args.at.now.q.now c.args.at.now.part.now c.args.pool.now c.args.e.now c.args.at.now.arriving _ c.requires.here c.requires.ready
     (let v = ap length c.as_slice-streams.ensures.value in let f = c.if-streams-gt3.false in omega (arith, v, f)) _ (one-read c.args.at.now.q.now c.args.at.now.part.now c.args.pool.now c.args.e.now c.args.at.now.arriving _ c.requires.here c.requires.ready _ (let r = c.read-cell.ensures.reads in omega (arith, r)))
 
@@ -152,8 +128,8 @@ returns-clause-reads g c =
     room-for-more c.args.at.now.q.now c.args.at.now.part.now c.args.pool.now c.args.e.now c.args.at.now.arriving _ c.requires.here c.requires.ready
     (let v = ap length c.as_slice-streams.ensures.value in let f = c.if-streams-gt3.false in omega (arith, v, f)) _ (one-read c.args.at.now.q.now c.args.at.now.part.now c.args.pool.now c.args.e.now c.args.at.now.arriving _ c.requires.here c.requires.ready _ (let r = c.read-cell.ensures.reads in omega (arith, r)))
 
-pub returns-then-is_empty-2-clause-few : goal.returns-then-is_empty-2-clause-few
-returns-then-is_empty-2-clause-few g c =
+pub returns-then-is_empty-clause-few : goal.returns-then-is_empty-clause-few
+returns-then-is_empty-clause-few g c =
     one-read c.args.at.now.q.now c.args.at.now.part.now c.args.pool.now c.args.e.now c.args.at.now.arriving _ c.requires.here c.requires.ready _ (let r = c.read-cell.ensures.reads in omega (arith, r))
 
 pub returns-then-streams-ne2-clause-few : goal.returns-then-streams-ne2-clause-few
@@ -197,50 +173,29 @@ returns-then-has_single_cells-clause-reads g c =
 
 pub returns-then-is_cut_off-2-clause-found : goal.returns-then-is_cut_off-2-clause-found
 returns-then-is_cut_off-2-clause-found g c =
-    seen-last c.args.at.now.q.now c.args.at.now.part.now c.args.pool.now c.args.e.now c.args.at.now.arriving _ _ c.requires.here c.requires.ready c.as_slice-row.ensures.value (c.is_cut_off-then-is_empty.ensures.empty c.if-is_cut_off-2.true)
-
-pub returns-then-is_empty-clause-few : goal.returns-then-is_empty-clause-few
-returns-then-is_empty-clause-few g c = cut-few c.args.at.now.q.now c.args.at.now.part.now c.args.pool.now c.args.e.now c.args.at.now.arriving _ c.requires.here c.requires.ready _ c.is_cut_off-then-is_empty.ensures.reads
-
-pub returns-then-is_cut_off-2-clause-few : goal.returns-then-is_cut_off-2-clause-few
-returns-then-is_cut_off-2-clause-few g c = cut-few c.args.at.now.q.now c.args.at.now.part.now c.args.pool.now c.args.e.now c.args.at.now.arriving _ c.requires.here c.requires.ready _ c.is_cut_off-then-is_empty.ensures.reads
-
-pub returns-then-is_empty-clause-reads : goal.returns-then-is_empty-clause-reads
-returns-then-is_empty-clause-reads g c =
-    room-for-more c.args.at.now.q.now c.args.at.now.part.now c.args.pool.now c.args.e.now c.args.at.now.arriving _ c.requires.here c.requires.ready (let v = ap length c.as_slice-streams.ensures.value in let f = c.if-streams-gt3.false in omega (arith, v, f)) _ (cut-few c.args.at.now.q.now c.args.at.now.part.now c.args.pool.now c.args.e.now c.args.at.now.arriving _ c.requires.here c.requires.ready _ c.is_cut_off-then-is_empty.ensures.reads)
-
-pub returns-then-is_cut_off-2-clause-reads : goal.returns-then-is_cut_off-2-clause-reads
-returns-then-is_cut_off-2-clause-reads g c =
-    room-for-more c.args.at.now.q.now c.args.at.now.part.now c.args.pool.now c.args.e.now c.args.at.now.arriving _ c.requires.here c.requires.ready (let v = ap length c.as_slice-streams.ensures.value in let f = c.if-streams-gt3.false in omega (arith, v, f)) _ (cut-few c.args.at.now.q.now c.args.at.now.part.now c.args.pool.now c.args.e.now c.args.at.now.arriving _ c.requires.here c.requires.ready _ c.is_cut_off-then-is_empty.ensures.reads)
-
-pub returns-then-is_clear_ahead-clause-found : goal.returns-then-is_clear_ahead-clause-found
-returns-then-is_clear_ahead-clause-found g c =
-    let held = c.requires.ready.held in
-    let here : c.args.at.now.arriving < length c.args.at.now.part.now.streams.items = omega (arith, c.requires.here, held.walked.plan.count) in
-    clear-ahead c.args.at.now.q.now c.args.at.now.part.now c.args.at.now.arriving c.args.at.now.row.now.items _ _ (read_from (cells_of c.args.pool.now c.args.e.now)) held.walked here
-    refl refl (c.is_clear_ahead.ensures.clear c.if-is_clear_ahead.true)
+    seen-last c.args.at.now.q.now c.args.at.now.part.now c.args.pool.now c.args.e.now c.args.at.now.arriving _ _ c.requires.here c.requires.ready c.as_slice-row.ensures.value (c.is_cut_off-in_default.ensures.empty c.if-is_cut_off-2.true)
 
 pub returns-in_default-clause-few : goal.returns-in_default-clause-few
-returns-in_default-clause-few g c = marks-few c.args.at.now.q.now c.args.at.now.part.now c.args.pool.now c.args.e.now c.args.at.now.arriving _ (length (start c.args.at.now.arriving)) c.requires.here c.requires.ready _ (length (start c.args.at.now.arriving) < length c.args.at.now.part.now.streams.items) (λ there. there) (half-few _ _ _ _ c.is_clear_ahead.ensures.reads)
+returns-in_default-clause-few g c = cut-few c.args.at.now.q.now c.args.at.now.part.now c.args.pool.now c.args.e.now c.args.at.now.arriving _ c.requires.here c.requires.ready _ c.is_cut_off-in_default.ensures.reads
 
-pub returns-then-is_clear_ahead-clause-few : goal.returns-then-is_clear_ahead-clause-few
-returns-then-is_clear_ahead-clause-few g c = marks-few c.args.at.now.q.now c.args.at.now.part.now c.args.pool.now c.args.e.now c.args.at.now.arriving _ (length (start c.args.at.now.arriving)) c.requires.here c.requires.ready _ (length (start c.args.at.now.arriving) < length c.args.at.now.part.now.streams.items) (λ there. there) (half-few _ _ _ _ c.is_clear_ahead.ensures.reads)
+pub returns-then-is_cut_off-2-clause-few : goal.returns-then-is_cut_off-2-clause-few
+returns-then-is_cut_off-2-clause-few g c = cut-few c.args.at.now.q.now c.args.at.now.part.now c.args.pool.now c.args.e.now c.args.at.now.arriving _ c.requires.here c.requires.ready _ c.is_cut_off-in_default.ensures.reads
 
 pub returns-in_default-clause-reads : goal.returns-in_default-clause-reads
 returns-in_default-clause-reads g c =
-    room-for-more c.args.at.now.q.now c.args.at.now.part.now c.args.pool.now c.args.e.now c.args.at.now.arriving _ c.requires.here c.requires.ready (let v = ap length c.as_slice-streams.ensures.value in let f = c.if-streams-gt3.false in omega (arith, v, f)) _
-    (marks-few c.args.at.now.q.now c.args.at.now.part.now c.args.pool.now c.args.e.now c.args.at.now.arriving _ (length (start c.args.at.now.arriving)) c.requires.here c.requires.ready _ (length (start c.args.at.now.arriving) < length c.args.at.now.part.now.streams.items) (λ there. there) (half-few _ _ _ _ c.is_clear_ahead.ensures.reads))
+    room-for-more c.args.at.now.q.now c.args.at.now.part.now c.args.pool.now c.args.e.now c.args.at.now.arriving _ c.requires.here c.requires.ready (let v = ap length c.as_slice-streams.ensures.value in let f = c.if-streams-gt3.false in omega (arith, v, f)) _ (cut-few c.args.at.now.q.now c.args.at.now.part.now c.args.pool.now c.args.e.now c.args.at.now.arriving _ c.requires.here c.requires.ready _ c.is_cut_off-in_default.ensures.reads)
 
-pub returns-then-is_clear_ahead-clause-reads : goal.returns-then-is_clear_ahead-clause-reads
-returns-then-is_clear_ahead-clause-reads g c =
-    room-for-more c.args.at.now.q.now c.args.at.now.part.now c.args.pool.now c.args.e.now c.args.at.now.arriving _ c.requires.here c.requires.ready (let v = ap length c.as_slice-streams.ensures.value in let f = c.if-streams-gt3.false in omega (arith, v, f)) _
-    (marks-few c.args.at.now.q.now c.args.at.now.part.now c.args.pool.now c.args.e.now c.args.at.now.arriving _ (length (start c.args.at.now.arriving)) c.requires.here c.requires.ready _ (length (start c.args.at.now.arriving) < length c.args.at.now.part.now.streams.items) (λ there. there) (half-few _ _ _ _ c.is_clear_ahead.ensures.reads))
-
-pub returns-then-is_empty-clause-alone : goal.returns-then-is_empty-clause-alone
-returns-then-is_empty-clause-alone g c two unknown = cut-none c.args.at.now.part.now _ _ _ two c.is_cut_off-then-is_empty.ensures.reads
+pub returns-then-is_cut_off-2-clause-reads : goal.returns-then-is_cut_off-2-clause-reads
+returns-then-is_cut_off-2-clause-reads g c =
+    room-for-more c.args.at.now.q.now c.args.at.now.part.now c.args.pool.now c.args.e.now c.args.at.now.arriving _ c.requires.here c.requires.ready (let v = ap length c.as_slice-streams.ensures.value in let f = c.if-streams-gt3.false in omega (arith, v, f)) _ (cut-few c.args.at.now.q.now c.args.at.now.part.now c.args.pool.now c.args.e.now c.args.at.now.arriving _ c.requires.here c.requires.ready _ c.is_cut_off-in_default.ensures.reads)
 
 pub returns-in_default-clause-alone : goal.returns-in_default-clause-alone
-returns-in_default-clause-alone g c two unknown = marks-half c.args.at.now.q.now c.args.at.now.part.now c.args.pool.now c.args.e.now c.args.at.now.arriving _ (length (start c.args.at.now.arriving)) c.requires.here c.requires.ready _ c.is_clear_ahead.ensures.reads
+returns-in_default-clause-alone g c two unknown = cut-none c.args.at.now.part.now _ _ _ two c.is_cut_off-in_default.ensures.reads
 
 pub returns-then-streams-gt3-clause-alone : goal.returns-then-streams-gt3-clause-alone
 returns-then-streams-gt3-clause-alone g c two unknown = absurd (let v = ap length c.as_slice-streams.ensures.value in let t = c.if-streams-gt3.true in omega (arith, v, t, two))
+
+pub returns-then-not-is_empty-clause-reads : goal.returns-then-not-is_empty-clause-reads
+returns-then-not-is_empty-clause-reads g c =
+    room-for-more c.args.at.now.q.now c.args.at.now.part.now c.args.pool.now c.args.e.now c.args.at.now.arriving c.args.steps.now.reads c.requires.here c.requires.ready
+    (let v = ap length c.as_slice-streams.ensures.value in let f = c.if-streams-gt3.false in omega (arith, v, f)) c.args.steps.now.reads (omega arith)

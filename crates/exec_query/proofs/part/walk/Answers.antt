@@ -1,6 +1,6 @@
-use Rattle.std.proofs.Common.{◌≡◌, ◌<◌, ◌∙◌, ap, sym, subst, arith, length, List, ◌∷◌}
+use Rattle.std.proofs.Common.{◌≡◌, ◌∙◌, ap, sym, subst, arith, length, List, ◌∷◌}
 use Rattle.exec_answer_table.specs.Entries.{TableValue, with_entries}
-use Rattle.sem_query.specs.Combinations.{read_from, Reading, Found}
+use Rattle.sem_query.specs.Combinations.{read_from, Found}
 use Rattle.sem_query.specs.Meaning.{by_column}
 use Rattle.sem_query.specs.Probing.{found_beside}
 use Rattle.exec_pool.specs.Extents.{cells_of}
@@ -8,42 +8,41 @@ use Rattle.exec_join.specs.Remaining.{as_found, left_of}
 use Rattle.exec_query.specs.FoundTable.{with_found, with_all, HaveRoom}
 use Rattle.exec_query.proofs.InPart.{none_added}
 use Rattle.exec_query.proofs.TableLaws.{taken_room, taken_table, taken_none, found_same}
-use Rattle.exec_query.proofs.OneTuple.{each_known, first_alone}
 use Rattle.exec_query.proofs.PassedRepeats.{passed_room, passed_table, passed_less}
 use Rattle.exec_query.proofs.part.walk.Goals as goal
 
 pub walk-preserved : goal.walk-preserved
 walk-preserved g c =
     let d = c.args.at.now.q.now.distinct in
-    let f : Found = as_found c.next-in-walk.new.tuple.items c.in-Some-next.count in
+    let f : Found = as_found c.next.new.tuple.items c.in-Some.count in
     let left : List Found = left_of c.args.at.now.q.now.select c.args.at.now.part.now (read_from (cells_of c.args.pool.now c.args.e.now)) c.walk.probe in
-    let others : List Found = left_of c.args.at.now.q.now.select c.args.at.now.part.now (read_from (cells_of c.args.pool.now c.args.e.now)) c.next-in-walk.new.self in
-    let e : left ≡ f ∷ others = c.in-Some-next.ensures.left in
-    let is : c.record_found-in-Some-next.new.table ≡ with_entries c.walk.table (with_found d f c.walk.table.entries)
-    = found_same c.distinct.result d f c.walk.table c.record_found-in-Some-next.new.table c.distinct.ensures c.record_found-in-Some-next.ensures in
+    let others : List Found = left_of c.args.at.now.q.now.select c.args.at.now.part.now (read_from (cells_of c.args.pool.now c.args.e.now)) c.next.new.self in
+    let e : left ≡ f ∷ others = c.in-Some.ensures.left in
+    let is : c.record_found.new.table ≡ with_entries c.walk.table (with_found d f c.walk.table.entries)
+    = found_same c.distinct.result d f c.walk.table c.record_found.new.table c.distinct.ensures c.record_found.ensures in
     let whole : TableValue = with_entries c.args.table.now (with_all d (found_beside c.args.at.now.q.now c.args.at.now.part.now (read_from (cells_of c.args.pool.now c.args.e.now)) c.args.at.now.arriving (by_column c.args.at.now.row.now.items)) c.args.table.now.entries) in
     let rest : List Found = left_of c.args.at.now.q.now.select c.args.at.now.part.now (read_from (cells_of c.args.pool.now c.args.e.now)) c.pass_repeats.new.self in
     let passed = c.pass_repeats.ensures.left (read_from (cells_of c.args.pool.now c.args.e.now)) in
     record {
       underway = c.pass_repeats.ensures.underway;
-      room = passed_room d f c.walk.table c.record_found-in-Some-next.new.table others rest is passed (taken_room d f left others c.walk.table c.record_found-in-Some-next.new.table e is c.walk.invariant.room);
-      table = passed_table d f c.walk.table c.record_found-in-Some-next.new.table others rest is passed whole (taken_table d f left others c.walk.table c.record_found-in-Some-next.new.table whole e is c.walk.invariant.table);
+      room = passed_room d f c.walk.table c.record_found.new.table others rest is passed (taken_room d f left others c.walk.table c.record_found.new.table e is c.walk.invariant.room);
+      table = passed_table d f c.walk.table c.record_found.new.table others rest is passed whole (taken_table d f left others c.walk.table c.record_found.new.table whole e is c.walk.invariant.table);
       reads = omega arith;
-      writes = c.next-in-walk.ensures.writes ∙ c.walk.invariant.writes;
+      writes = c.next.ensures.writes ∙ c.walk.invariant.writes;
     }
 
 pub walk-smaller : goal.walk-smaller
 walk-smaller g c =
     let d = c.args.at.now.q.now.distinct in
-    let f : Found = as_found c.next-in-walk.new.tuple.items c.in-Some-next.count in
+    let f : Found = as_found c.next.new.tuple.items c.in-Some.count in
     let read = read_from (cells_of c.args.pool.now c.args.e.now) in
     let left : List Found = left_of c.args.at.now.q.now.select c.args.at.now.part.now read c.walk.probe in
-    let others : List Found = left_of c.args.at.now.q.now.select c.args.at.now.part.now read c.next-in-walk.new.self in
+    let others : List Found = left_of c.args.at.now.q.now.select c.args.at.now.part.now read c.next.new.self in
     let rest : List Found = left_of c.args.at.now.q.now.select c.args.at.now.part.now read c.pass_repeats.new.self in
-    let e : left ≡ f ∷ others = c.in-Some-next.ensures.left in
-    let is : c.record_found-in-Some-next.new.table ≡ with_entries c.walk.table (with_found d f c.walk.table.entries)
-    = found_same c.distinct.result d f c.walk.table c.record_found-in-Some-next.new.table c.distinct.ensures c.record_found-in-Some-next.ensures in
-    let less = passed_less d f c.walk.table c.record_found-in-Some-next.new.table others rest is (c.pass_repeats.ensures.left read) in
+    let e : left ≡ f ∷ others = c.in-Some.ensures.left in
+    let is : c.record_found.new.table ≡ with_entries c.walk.table (with_found d f c.walk.table.entries)
+    = found_same c.distinct.result d f c.walk.table c.record_found.new.table c.distinct.ensures c.record_found.ensures in
+    let less = passed_less d f c.walk.table c.record_found.new.table others rest is (c.pass_repeats.ensures.left read) in
     omega (arith, ap length e, less)
 
 pub returns-clause-table : goal.returns-clause-table
@@ -66,22 +65,3 @@ walk-init g c =
 
 pub returns-then-is_nothing-clause-table : goal.returns-then-is_nothing-clause-table
 returns-then-is_nothing-clause-table g c = none_added c.args.at.now.q.now.distinct _ c.args.table.now (c.look_along-seen.ensures.nothing (c.is_nothing.ensures.yes c.if-is_nothing.true))
-
-pub returns-in-Some-clause-table : goal.returns-in-Some-clause-table
-returns-in-Some-clause-table g c =
-    let read : Reading = read_from (cells_of c.args.pool.now c.args.e.now) in
-    let here : c.args.at.now.arriving < length c.args.at.now.part.now.streams.items = (let h = c.requires.here in let n = c.requires.ready.held.walked.plan.count in omega (arith, h, n)) in
-    let known = c.determined_tuple.ensures c.if-determined_tuple.true in
-    let f : Found = as_found c.next.new.tuple.items c.in-Some.count in
-    let others : List Found = left_of c.args.at.now.q.now.select c.args.at.now.part.now read c.next.new.self in
-    let all : List Found = found_beside c.args.at.now.q.now c.args.at.now.part.now read c.args.at.now.arriving (by_column c.args.at.now.row.now.items) in
-    let is : all ≡ f ∷ others = sym (c.new_behind-probe.ensures.left read c.args.steps.now.reads c.look_along-seen.new.steps.reads c.look_along-seen.ensures.seen) ∙ c.in-Some.ensures.left in
-    first_alone c.args.at.now.q.now.distinct c.determined_tuple.new.tuple.items f all others c.args.table.now c.record_found.new.table known.distinct is
-    (each_known c.args.at.now.q.now c.args.at.now.part.now read c.args.at.now.arriving c.args.at.now.row.now.items c.determined_tuple.new.tuple.items here known.known)
-    c.record_found.ensures
-
-pub returns-in-None-clause-table : goal.returns-in-None-clause-table
-returns-in-None-clause-table g c =
-    let read : Reading = read_from (cells_of c.args.pool.now c.args.e.now) in
-    none_added c.args.at.now.q.now.distinct (found_beside c.args.at.now.q.now c.args.at.now.part.now read c.args.at.now.arriving (by_column c.args.at.now.row.now.items)) c.args.table.now
-    (sym (c.new_behind-probe.ensures.left read c.args.steps.now.reads c.look_along-seen.new.steps.reads c.look_along-seen.ensures.seen) ∙ c.in-None.ensures.left.0)

@@ -2,8 +2,8 @@ use Rattle.sem_query.specs.Parts.{pairs}
 use Rattle.std.proofs.Common.{◌≡◌, ◌∙◌, length, sym, ap, arith, ℤ, ◌-ℤ◌, nat_abs, to_z, of_z, w64}
 use Rattle.std.proofs.lemmas.Int.{ints, to_z-of_z}
 use Rattle.exec_ranges.specs.Values.{value_in}
-use Rattle.exec_join.proofs.RunLaws.{bound-one, bound-size}
-use Rattle.exec_join.proofs.run.bound_place.Goals as goal
+use Rattle.exec_join.proofs.BoundLaws.{bound-one, bound-size}
+use Rattle.exec_join.proofs.along.bound_place.Goals as goal
 
 pub returns : goal.returns
 returns c =
