@@ -27,6 +27,11 @@ def refusals(output, files, function):
     return found
 
 
+def compiles(output):
+    """Returns whether no error of the compiler stands in what a check wrote."""
+    return not re.search(r"\berror\[[\w-]+\]", output)
+
+
 def fault_of(status, output, files, crate, function):
     """Says why a check with an edit shows no refusal of the function, or gives None where it does."""
     last = output.rstrip("\n").split("\n")[-1]
@@ -34,7 +39,7 @@ def fault_of(status, output, files, crate, function):
         return f"the prover judged nothing: {last[:200]}"
     if is_proved(status, output):
         return "it is still proved"
-    if re.search(r"\berror\[[\w-]+\]", output):
+    if not compiles(output):
         return "the edited text does not compile"
     if status != 1 or not re.fullmatch(r"only=\d+ proved=\d+", last):
         return f"it came to no result (status {status}): {last[:200]}"
