@@ -5,6 +5,7 @@ It is written from the description alone. Files are read in a folder; one that c
 judged where their whole text is known here: else the judge says nothing.
 """
 import os
+import re
 from collections import namedtuple
 
 import checker
