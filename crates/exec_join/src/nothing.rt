@@ -23,7 +23,7 @@ use std::sync::ledger::Ledger;
 /// Returns what is seen of the answers to a row before a walk begins, and puts the tuple where there is one. Where it is listed that one
 /// cell is left where a walk begins, there is none if that cell is empty, and over two streams that cell alone tells all; and there is none
 /// where the row's own columns leave no cell that holds anything where a walk ends. A walk may follow within three times the share of the
-/// part; over two streams it follows where no cell was read.
+/// part; over two streams it follows at most half the share.
 pub fn look_before_walk<L: Ledger>(
     pool: &Pool,
     e: &Extent,
